@@ -1,0 +1,10 @@
+-- `compare::eq_f64` meets its contract. Assumes nothing.
+use mathlib.Core.Path.{refl}
+use Rattle.leaves.proofs.compare.eq_f64.Statement.{statement}
+use Rattle.leaves.proofs.compare.eq_f64.Tie as tie
+
+returns : tie.Need-returns
+returns c = refl
+
+pub eq-f64-spec : {M : Type 1} → statement M
+eq-f64-spec = tie.close (tie.spec returns)

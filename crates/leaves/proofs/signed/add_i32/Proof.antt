@@ -1,0 +1,38 @@
+-- `signed::add_i32` meets its contract: the bits of the sum are those that the operation on bits gives. Assumes nothing.
+use mathlib.Core.Path.{sym}
+use borrow.Author.Needs.{needs}
+use lib.IntN.{ℤ, _+ℤ_}
+use mir.Syntax.{w32}
+use mir.Val.{SFits}
+use mir.Facts.{toZ-ofZ}
+use Rattle.leaves.specs.Signed.{addI32}
+use Rattle.leaves.proofs.Integers.{residue-add, wrapped}
+use Rattle.leaves.proofs.signed.add_i32.Statement.{statement}
+use Rattle.leaves.proofs.signed.add_i32.Tie as tie
+
+bits-of-requires : tie.Need-bits-of-requires
+bits-of-requires c κs = search needs
+
+bits-of-requires-2 : tie.Need-bits-of-requires-2
+bits-of-requires-2 c κs = search needs
+
+wrapping-add-u32-requires : tie.Need-wrapping-add-u32-requires
+wrapping-add-u32-requires c κs = search needs
+
+of-bits-requires : tie.Need-of-bits-requires
+of-bits-requires c κs = search needs
+
+returns : tie.Need-returns
+unfolding addI32
+returns c =
+    let start = c .before .before .before .before in
+    let a : ℤ = start .args .a in
+    let b : ℤ = start .args .b in
+    let h : SFits w32 a = start .fits .a in
+    let k : SFits w32 b = start .fits .b in
+    wrapped _ (a +ℤ b) (c .before .wrapping-add-u32 .result) (c .of-bits .ok) (c .of-bits .ensures)
+    (simp (c .before .wrapping-add-u32 .ensures, c .before .before .bits-of2 .ensures, c .before .before .before .bits-of .ensures, toZ-ofZ h, toZ-ofZ k)
+    (sym (residue-add a b h k)))
+
+pub add-i32-spec : {M : Type 1} → statement M
+add-i32-spec = tie.close (tie.spec bits-of-requires bits-of-requires-2 wrapping-add-u32-requires of-bits-requires returns)

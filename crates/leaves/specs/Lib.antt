@@ -1,0 +1,7 @@
+pub mod Signed
+pub mod Unsigned
+pub mod Fixed
+pub mod Float
+pub mod Quads
+pub mod Constants
+pub mod Cases

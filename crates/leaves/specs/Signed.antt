@@ -1,0 +1,58 @@
+-- The I32 leaves, of document 01's module 1 (Number leaves). A value is an integer from -2^31 to 2^31 - 1.
+-- Add, subtract and multiply wrap modulo 2^32; division truncates toward zero, and the remainder goes with it.
+-- Assumes nothing.
+use Prim.Native.Nat.{ℕ, suc, _-_, _%_, _^_}
+use mathlib.Core.Bool.{Bool, false, cond}
+use lib.IntN.{ℤ, pos, negsuc, natAbs, _+ℤ_, _-ℤ_, _*ℤ_}
+use lib.Signed.{mag, quotZ, remZ}
+use lib.Dec.{ltb, eqb}
+use mir.Syntax.{w32}
+use mir.Val.{toZ}
+use Rattle.leaves.specs.declared.signed.I32Result.{I32Result}
+use Rattle.leaves.specs.declared.signed.I32Result.the-variants.{Value, Absent}
+
+-- the residue of z modulo m, from 0 to m - 1
+unfoldable pub residue : ℤ → ℕ → ℕ
+residue (pos n) m = n % m
+residue (negsuc n) m = m - suc (n % m)
+
+-- the i32 that is congruent to z modulo 2^32: the one whose two's complement bits are z's residue
+unfoldable pub wrap : ℤ → ℤ
+unfolding residue
+wrap z = toZ w32 (residue z (2 ^ 32))
+
+-- z lies in the range of an i32
+abbrev pub inI32 : ℤ → Bool
+inI32 z = ltb (mag z) (2 ^ 31)
+
+abbrev pub isZero : ℤ → Bool
+isZero z = eqb (natAbs z) 0
+
+-- equality of two integers
+abbrev pub sameZ : ℤ → ℤ → Bool
+sameZ (pos m) (pos n) = eqb m n
+sameZ (pos m) (negsuc n) = false
+sameZ (negsuc m) (pos n) = false
+sameZ (negsuc m) (negsuc n) = eqb m n
+
+-- z, or no result outside i32
+abbrev pub checkedI32 : ℤ → I32Result
+checkedI32 z = cond (inI32 z) (Value z) Absent
+
+-- "I32 add, subtract and multiply wrap modulo 2^32"
+unfoldable pub addI32 : ℤ → ℤ → I32Result
+addI32 a b = Value (wrap (a +ℤ b))
+
+unfoldable pub subI32 : ℤ → ℤ → I32Result
+subI32 a b = Value (wrap (a -ℤ b))
+
+unfoldable pub mulI32 : ℤ → ℤ → I32Result
+mulI32 a b = Value (wrap (a *ℤ b))
+
+-- "truncates toward zero; it has no result for divisor 0 or for -2,147,483,648 by -1", whose quotient alone is outside i32
+unfoldable pub divI32 : ℤ → ℤ → I32Result
+divI32 a b = cond (isZero b) Absent (checkedI32 (quotZ a b))
+
+-- "and neither has the remainder"
+unfoldable pub modI32 : ℤ → ℤ → I32Result
+modI32 a b = cond (isZero b) Absent (cond (inI32 (quotZ a b)) (Value (remZ a b)) Absent)

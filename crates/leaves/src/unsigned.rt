@@ -1,0 +1,55 @@
+// U32 leaves. A value is a natural number; a result exists only in range.
+ghost use mathlib.Core.Path.{_≡_};
+ghost use Rattle.leaves.specs.Unsigned.{addU32, subU32, mulU32, divU32, modU32};
+
+// What a U32 leaf answers.
+pub enum U32Result {
+    Value(u32),
+    Absent,
+}
+
+pub fn add_u32(a: u32, b: u32) -> U32Result
+    ensures { λ r. ⌜ r ≡ addU32 a b ⌝ }
+{
+    if a <= u32::MAX - b {
+        return U32Result::Value(a + b);
+    }
+    U32Result::Absent
+}
+
+pub fn sub_u32(a: u32, b: u32) -> U32Result
+    ensures { λ r. ⌜ r ≡ subU32 a b ⌝ }
+{
+    if b <= a {
+        return U32Result::Value(a - b);
+    }
+    U32Result::Absent
+}
+
+pub fn mul_u32(a: u32, b: u32) -> U32Result
+    ensures { λ r. ⌜ r ≡ mulU32 a b ⌝ }
+{
+    let wide = (a as u64) * (b as u64);
+    if wide < 4294967296 {
+        return U32Result::Value(wide as u32);
+    }
+    U32Result::Absent
+}
+
+pub fn div_u32(a: u32, b: u32) -> U32Result
+    ensures { λ r. ⌜ r ≡ divU32 a b ⌝ }
+{
+    if b == 0 {
+        return U32Result::Absent;
+    }
+    U32Result::Value(a / b)
+}
+
+pub fn mod_u32(a: u32, b: u32) -> U32Result
+    ensures { λ r. ⌜ r ≡ modU32 a b ⌝ }
+{
+    if b == 0 {
+        return U32Result::Absent;
+    }
+    U32Result::Value(a % b)
+}
