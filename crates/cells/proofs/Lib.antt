@@ -1,0 +1,11 @@
+pub mod Answers
+pub mod Cells
+pub mod Checks
+pub mod Every
+pub mod Facts
+pub mod Functions
+pub mod Lists
+pub mod Over
+pub mod Rows
+pub mod Views
+pub mod GoodCells

@@ -1,0 +1,12 @@
+pub mod Bytes
+pub mod Cells
+pub mod Lists
+pub mod Table
+pub mod Refusals
+pub mod Answers
+pub mod Check
+pub mod Functions
+pub mod Ins
+pub mod View
+pub mod Written
+pub mod WellFormed
