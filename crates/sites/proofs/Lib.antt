@@ -1,0 +1,11 @@
+pub mod Loops
+pub mod Anywhere
+pub mod Judged
+pub mod Tally
+pub mod SitesFit
+pub mod SameSites
+pub mod DoubleCounting
+pub mod RustSame
+pub mod Actions
+pub mod EachPasses
+pub mod Counted
