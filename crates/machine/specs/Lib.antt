@@ -1,0 +1,5 @@
+pub mod Values
+pub mod Compute
+pub mod Run
+pub mod Records
+pub mod Runs

@@ -1,0 +1,1 @@
+// How a function runs: definitions and theorems alone, no code.
