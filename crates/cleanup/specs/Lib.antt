@@ -1,0 +1,11 @@
+pub mod Marks
+pub mod Passes
+pub mod Cleanup
+pub mod Premise
+pub mod Errors
+pub mod KeptEvents
+pub mod Cases
+pub mod Reading
+pub mod Positions
+pub mod Receipts
+pub mod Written
