@@ -1,0 +1,12 @@
+pub mod Natural
+pub mod FoldJumps
+pub mod FoldRecords
+pub mod FoldPasses
+pub mod FoldCounts
+pub mod EachFolded
+pub mod FoldWellFormed
+pub mod Meanings
+pub mod Effects
+pub mod Agreement
+pub mod Turn
+pub mod Kept
