@@ -1,0 +1,7 @@
+pub mod Records
+pub mod KeepsPlaces
+pub mod Needed
+pub mod RewritePasses
+pub mod RewriteCounts
+pub mod EachFunction
+pub mod RewritePreserves

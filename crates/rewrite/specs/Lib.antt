@@ -1,0 +1,5 @@
+pub mod Rewrite
+pub mod Claim
+pub mod Cases
+pub mod AllFunctions
+pub mod Preserved

@@ -1,0 +1,1 @@
+// Cleanup and then CrystalFold of one function: definitions and theorems alone, no code.
