@@ -1,0 +1,4 @@
+pub mod Image
+pub mod Sites
+pub mod Operations
+pub mod Worked
