@@ -1,0 +1,5 @@
+pub mod Checked
+pub mod Done
+pub mod OneFunction
+pub mod WholeImage
+pub mod Answered

@@ -1,0 +1,129 @@
+// The rewriting operations on an image: cleanup, CrystalFold, and both, as `run_default_opt_passes`. Nothing is written before all checks
+// have passed.
+mod function;
+
+use cells::check::MAX_IMAGE;
+use cells::read::CELL;
+use cells::refusal::Checked;
+use cells::refusal::Refusal;
+use image::head;
+use sites::Part;
+ghost use mathlib.Core.Path.{_≡_};
+ghost use Prim.Native.Nat.{_≤_};
+ghost use lib.ListN.{length};
+ghost use Rattle.cells.specs.Cells.{cells};
+ghost use Rattle.cells.specs.Functions.{functions};
+ghost use Rattle.cells.specs.declared.refusal.Checked.the-variants.{Good};
+ghost use Rattle.image.specs.Sites.{siteAnswer};
+ghost use Rattle.passes.specs.Passes.{passCheck, passAnswer, passOutput};
+ghost use Rattle.passes.specs.Contracts.{PassDone, RewriteDone};
+ghost use Rattle.passes.specs.Steps.{AllWritten};
+
+// Which passes an operation runs.
+pub enum Pass {
+    Cleanup,
+    CrystalFold,
+    Default,
+}
+
+// How many rewrites there were, and whether there was any.
+pub struct OptReport {
+    pub changed: bool,
+    pub num_rewrites: usize,
+}
+
+// The answer of a rewriting operation: the length written and the report, or a refusal.
+pub enum Rewrite {
+    Written(usize, OptReport),
+    Refused(Refusal),
+}
+
+// Cleanup of every function.
+pub fn cleanup(image: &[u8], out: &mut [u8]) -> Rewrite
+    ensures { λ r. ⌜ PassDone Pass.Cleanup (now (image .entry)) (now (out .entry)) (now (out .exit)) r ⌝ }
+{
+    run(Pass::Cleanup, image, out)
+}
+
+// CrystalFold of every function.
+pub fn crystalfold(image: &[u8], out: &mut [u8]) -> Rewrite
+    ensures { λ r. ⌜ PassDone Pass.CrystalFold (now (image .entry)) (now (out .entry)) (now (out .exit)) r ⌝ }
+{
+    run(Pass::CrystalFold, image, out)
+}
+
+// The whole rewrite: cleanup of every function, then CrystalFold of every function.
+pub fn run_default_opt_passes(image: &[u8], out: &mut [u8]) -> Rewrite
+    ensures { λ r. ⌜ RewriteDone (now (image .entry)) (now (out .entry)) (now (out .exit)) r ⌝ }
+{
+    run(Pass::Default, image, out)
+}
+
+fn run(pass: Pass, image: &[u8], out: &mut [u8]) -> Rewrite
+    ensures { λ r. ⌜ r ≡ passAnswer pass (now (image .entry)) (length (now (out .entry))) ⌝ }
+    ensures { λ _. ⌜ now (out .exit) ≡ passOutput pass (now (image .entry)) (now (out .entry)) ⌝ }
+{
+    let checked = check(image, out.len());
+    if let Checked::Refused(x) = checked {
+        return Rewrite::Refused(x);
+    }
+    let written = rewrite_functions(pass, image, out);
+    let n = written.cells;
+    let num_rewrites = written.rewrites;
+    Rewrite::Written(
+        CELL * n,
+        OptReport {
+            changed: 0 < num_rewrites,
+            num_rewrites,
+        },
+    )
+}
+
+// 1, then 5, then as the site check; the output has room bytes.
+fn check(image: &[u8], room: usize) -> Checked
+    ensures { λ r. ⌜ r ≡ passCheck (now (image .entry)) room ⌝ }
+{
+    if MAX_IMAGE < image.len() {
+        return Checked::Refused(Refusal::Length);
+    }
+    if image.len() % CELL != 0 {
+        return Checked::Refused(Refusal::Length);
+    }
+    if room < image.len() {
+        return Checked::Refused(Refusal::OutputTooShort);
+    }
+    image::site_check(image)
+}
+
+// How many cells are written, and how many rewrites there were.
+pub struct Written {
+    pub cells: usize,
+    pub rewrites: usize,
+}
+
+// Every function, rewritten, one after another.
+fn rewrite_functions(pass: Pass, image: &[u8], out: &mut [u8]) -> Written
+    requires { ⌜ (siteAnswer (now image) ≡ Good) × (length (now image) ≤ length (now out)) ⌝ }
+    ensures { λ r. ⌜ AllWritten pass (functions (cells (now (image .entry)))) (now (out .entry)) (now (out .exit)) r ⌝ }
+{
+    let total = image.len() / CELL;
+    let mut at: usize = 0;
+    let mut to: usize = 0;
+    let mut rewrites: usize = 0;
+    while at < total {
+        let code = head::count_of(image, at, Part::Code);
+        let events = head::count_of(image, at, Part::Events);
+        let o = CELL * to;
+        let r = function::rewrite_at(pass, image, at, &mut out[o..]);
+        let n = r.instructions;
+        let m = r.events;
+        let w = r.rewrites;
+        to = to + 1 + n + m;
+        rewrites = rewrites + w;
+        at = at + 1 + code + events;
+    }
+    Written {
+        cells: to,
+        rewrites,
+    }
+}
