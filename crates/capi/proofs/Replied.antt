@@ -1,0 +1,81 @@
+-- The promises follow from those of the operations, and from the numbers that their answers are.
+use Prim.Native.Nat.{ℕ, _≤_}
+use mathlib.Core.Path.{_≡_, refl, sym, _∙_, ap}
+use mathlib.Core.Logic.{_↔_}
+use mathlib.Core.Bool.{true, true≢false}
+use mathlib.Core.List.{List}
+use native.Mathlib.Omega.{arith}
+use lib.ListN.{length}
+use Rattle.cells.specs.Refusals.{numbersOf}
+use Rattle.cells.specs.declared.refusal.Refusal.{Refusal}
+use Rattle.cells.specs.declared.refusal.Refusal.the-variants.{Length, Head, UnknownCommand, Operand, OutputTooShort, ActivationSiteRepeated, ActivationSiteOnWrite, ActivationSiteClaimedTwice, ActivationSitesDiffer, WriteSiteRepeated, WriteSiteOnBorrow, WriteWithoutSite, WriteSiteUnclaimed, StoreVarSiteClaimedTwice, WriteSiteUnknown}
+use Rattle.cells.specs.declared.refusal.Checked.{Checked}
+use Rattle.cells.specs.declared.refusal.Checked.the-variants.{Good, Refused as RefusedBy}
+use Rattle.image.specs.Image.{GoodImage}
+use Rattle.image.specs.Sites.{SitesPass}
+use Rattle.image.specs.Operations.{ImageChecked, SiteChecked}
+use Rattle.passes.specs.Contracts.{isWritten, PassDone, RewriteDone}
+use Rattle.passes.specs.declared.Pass.{Pass}
+use Rattle.passes.specs.declared.Pass.the-variants.{Default}
+use Rattle.passes.specs.declared.Rewrite.{Rewrite}
+use Rattle.passes.specs.declared.Rewrite.the-variants.{Written, Refused}
+use Rattle.capi.specs.Replies.{checkReply, rewriteReply}
+use Rattle.capi.specs.Contracts.{ImageReplied, SitesReplied, PassReplied, RewriteReplied}
+use Rattle.capi.specs.declared.Reply.{Reply}
+
+-- ---- 0 is no refusal's number
+
+refused : (x : Refusal) → numbersOf x .number ≡ 0 → ⊥
+refused Length e = omega (arith, e)
+refused (Head p d) e = omega (arith, e)
+refused (UnknownCommand p d) e = omega (arith, e)
+refused (Operand p d) e = omega (arith, e)
+refused OutputTooShort e = omega (arith, e)
+refused (ActivationSiteRepeated p d) e = omega (arith, e)
+refused (ActivationSiteOnWrite p d) e = omega (arith, e)
+refused (ActivationSiteClaimedTwice p d) e = omega (arith, e)
+refused (ActivationSitesDiffer p) e = omega (arith, e)
+refused (WriteSiteRepeated p d) e = omega (arith, e)
+refused (WriteSiteOnBorrow p d) e = omega (arith, e)
+refused (WriteWithoutSite p) e = omega (arith, e)
+refused (WriteSiteUnclaimed p d) e = omega (arith, e)
+refused (StoreVarSiteClaimedTwice p d) e = omega (arith, e)
+refused (WriteSiteUnknown p d) e = omega (arith, e)
+
+check-zero : (r : Checked) → (checkReply r .number ≡ 0) ↔ (r ≡ Good)
+check-zero Good = ((λ e. refl), (λ e. refl))
+check-zero (RefusedBy x) = ((λ e. absurd (refused x e)), (λ e. ap (λ (r : Checked). checkReply r .number) e))
+
+rewrite-zero : (r : Rewrite) → (rewriteReply r .number ≡ 0) ↔ (isWritten r ≡ true)
+rewrite-zero (Written n report) = ((λ e. refl), (λ e. refl))
+rewrite-zero (Refused x) = ((λ e. absurd (refused x e)), (λ e. absurd (true≢false (sym e))))
+
+-- ---- the promises, for the numbers q of an answer r
+
+abbrev number-of : Reply → ℕ
+number-of q = q .number
+
+via : {P Q : Type 0} {q t : Reply} → q ≡ t → (t .number ≡ 0) ↔ P → P ↔ Q → (q .number ≡ 0) ↔ Q
+via e f g = ((λ z. g .0 (f .0 (sym (ap number-of e) ∙ z))), (λ z. ap number-of e ∙ f .1 (g .1 z)))
+
+pub image-replied : (s : List ℕ) (r : Checked) (q : Reply) → ImageChecked s r → q ≡ checkReply r → ImageReplied s (q .number) (q .first) (q .second)
+image-replied s r q h e = record { reply = e ∙ ap checkReply (h .answer); accepted = via e (check-zero r) (h .accepted) }
+
+pub sites-replied : (s : List ℕ) (r : Checked) (q : Reply) → SiteChecked s r → q ≡ checkReply r → SitesReplied s (q .number) (q .first) (q .second)
+sites-replied s r q h e = record { reply = e ∙ ap checkReply (h .answer); accepted = via e (check-zero r) (h .accepted) }
+
+pub pass-replied : (p : Pass) (s before after : List ℕ) (r : Rewrite) (q : Reply) → PassDone p s before after r → q ≡ rewriteReply r
+    → PassReplied p s before after (q .number) (q .first) (q .second)
+pass-replied p s before after r q h e = record {
+  reply = e ∙ ap rewriteReply (h .answer);
+  accepted = via e (rewrite-zero r) (h .accepted);
+  done = rw (sym (h .answer)) h;
+}
+
+pub rewrite-replied : (s before after : List ℕ) (r : Rewrite) (q : Reply) → RewriteDone s before after r → q ≡ rewriteReply r
+    → RewriteReplied s before after (q .number) (q .first) (q .second)
+rewrite-replied s before after r q h e = record {
+  reply = e ∙ ap rewriteReply (h .done .answer);
+  accepted = via e (rewrite-zero r) (h .done .accepted);
+  done = rw (sym (h .done .answer)) h;
+}

@@ -1,0 +1,26 @@
+-- The answers of the five operations as three numbers. 0 and what a success holds; or document 01's number of the refusal, the function's
+-- position and the detail.
+use Prim.Native.Nat.{ℕ}
+use Rattle.cells.specs.Refusals.{numbersOf}
+use Rattle.cells.specs.declared.refusal.Refusal.{Refusal}
+use Rattle.cells.specs.declared.refusal.Checked.{Checked}
+use Rattle.cells.specs.declared.refusal.Checked.the-variants.{Good, Refused as RefusedBy}
+use Rattle.passes.specs.declared.Rewrite.{Rewrite}
+use Rattle.passes.specs.declared.Rewrite.the-variants.{Written, Refused}
+use Rattle.capi.specs.declared.Reply.{Reply}
+
+abbrev pub three : ℕ → ℕ → ℕ → Reply
+three n a b = record { number = n; first = a; second = b }
+
+abbrev pub refusalReply : Refusal → Reply
+refusalReply x = three (numbersOf x .number) (numbersOf x .position) (numbersOf x .detail)
+
+-- a check's success holds nothing
+abbrev pub checkReply : Checked → Reply
+checkReply Good = three 0 0 0
+checkReply (RefusedBy x) = refusalReply x
+
+-- the length written and the count of rewrites; `changed` is whether the count isn't 0
+abbrev pub rewriteReply : Rewrite → Reply
+rewriteReply (Written n report) = three 0 n (report .«num_rewrites»)
+rewriteReply (Refused x) = refusalReply x

@@ -1,0 +1,130 @@
+// The five operations for C and Rust: answers are numbers, and two of them are written through references.
+use cells::refusal;
+use cells::refusal::Checked;
+use passes::Rewrite;
+ghost use mathlib.Core.Path.{_≡_};
+ghost use Rattle.passes.specs.declared.Pass.the-variants.{Cleanup, CrystalFold};
+ghost use Rattle.capi.specs.Replies.{refusalReply, checkReply, rewriteReply};
+ghost use Rattle.capi.specs.Contracts.{ImageReplied, SitesReplied, PassReplied, RewriteReplied};
+
+// An answer in three numbers: 0 or the refusal's number, then two more.
+pub struct Reply {
+    pub number: usize,
+    pub first: usize,
+    pub second: usize,
+}
+
+// The image check: 0, or the refusal's number.
+#[no_mangle]
+pub extern "C" fn matchdesk_image_check(
+    image: &[u8],
+    position: &mut usize,
+    detail: &mut usize,
+) -> usize
+    ensures { λ r. ⌜ ImageReplied (now (image .entry)) r (now (position .exit)) (now (detail .exit)) ⌝ }
+{
+    let r = reply_of_check(image::image_check(image));
+    *position = r.first;
+    *detail = r.second;
+    r.number
+}
+
+// The site check: 0, or the refusal's number.
+#[no_mangle]
+pub extern "C" fn matchdesk_site_check(
+    image: &[u8],
+    position: &mut usize,
+    detail: &mut usize,
+) -> usize
+    ensures { λ r. ⌜ SitesReplied (now (image .entry)) r (now (position .exit)) (now (detail .exit)) ⌝ }
+{
+    let r = reply_of_check(image::site_check(image));
+    *position = r.first;
+    *detail = r.second;
+    r.number
+}
+
+// Cleanup: 0, the length written and the count of rewrites; or the refusal's number, position and detail.
+#[no_mangle]
+pub extern "C" fn matchdesk_cleanup(
+    image: &[u8],
+    out: &mut [u8],
+    first: &mut usize,
+    second: &mut usize,
+) -> usize
+    ensures { λ r. ⌜ PassReplied Cleanup (now (image .entry)) (now (out .entry)) (now (out .exit)) r (now (first .exit)) (now (second .exit)) ⌝ }
+{
+    let r = reply_of_rewrite(passes::cleanup(image, out));
+    *first = r.first;
+    *second = r.second;
+    r.number
+}
+
+// CrystalFold, answered as cleanup.
+#[no_mangle]
+pub extern "C" fn matchdesk_crystalfold(
+    image: &[u8],
+    out: &mut [u8],
+    first: &mut usize,
+    second: &mut usize,
+) -> usize
+    ensures { λ r. ⌜ PassReplied CrystalFold (now (image .entry)) (now (out .entry)) (now (out .exit)) r (now (first .exit)) (now (second .exit)) ⌝ }
+{
+    let r = reply_of_rewrite(passes::crystalfold(image, out));
+    *first = r.first;
+    *second = r.second;
+    r.number
+}
+
+// The whole rewrite, answered as cleanup.
+#[no_mangle]
+pub extern "C" fn matchdesk_rewrite(
+    image: &[u8],
+    out: &mut [u8],
+    first: &mut usize,
+    second: &mut usize,
+) -> usize
+    ensures { λ r. ⌜ RewriteReplied (now (image .entry)) (now (out .entry)) (now (out .exit)) r (now (first .exit)) (now (second .exit)) ⌝ }
+{
+    let r = reply_of_rewrite(passes::run_default_opt_passes(image, out));
+    *first = r.first;
+    *second = r.second;
+    r.number
+}
+
+fn reply_of_refusal(x: refusal::Refusal) -> Reply
+    ensures { λ r. ⌜ r ≡ refusalReply x ⌝ }
+{
+    let n = refusal::numbers_of(x);
+    Reply {
+        number: n.number,
+        first: n.position,
+        second: n.detail,
+    }
+}
+
+fn reply_of_check(c: Checked) -> Reply
+    ensures { λ r. ⌜ r ≡ checkReply c ⌝ }
+{
+    match c {
+        Checked::Good => Reply {
+            number: 0,
+            first: 0,
+            second: 0,
+        },
+        Checked::Refused(x) => reply_of_refusal(x),
+    }
+}
+
+fn reply_of_rewrite(w: Rewrite) -> Reply
+    ensures { λ r. ⌜ r ≡ rewriteReply w ⌝ }
+{
+    match w {
+        Rewrite::Written(n, report) => Reply {
+            number: 0,
+            first: n,
+            second: report.num_rewrites,
+        },
+        Rewrite::Refused(x) => reply_of_refusal(x),
+    }
+}
