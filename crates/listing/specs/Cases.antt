@@ -1,0 +1,56 @@
+-- Worked texts: document 01's printed example, the empty image, and refusals.
+use mathlib.Core.Path.{_≡_, refl}
+use mathlib.Core.List.{List, [], _∷_, _++_, map}
+use Prim.Native.Nat.{ℕ}
+use lib.ListN.{replicate}
+use Rattle.cells.specs.Cells.{Cell}
+use Rattle.listing.specs.Decimal.{decimal}
+use Rattle.listing.specs.Text.{rewritesLine, rewrittenText, refusedText}
+
+-- what is printed: cells and a count, or a refusal's number, position and detail
+pub data Printed : Type 0 where
+  rewritten : List Cell → ℕ → Printed
+  refused : ℕ → ℕ → ℕ → Printed
+
+pub textOf : Printed → List ℕ
+textOf (rewritten cs count) = rewrittenText cs count
+textOf (refused number position detail) = refusedText number position detail
+
+pub record Case : Type 0 where
+  pub printed : Printed
+  pub text : List ℕ
+
+-- zeros of a line, and its end
+zeros : ℕ → List ℕ
+zeros n = replicate n 48 ++ 10 ∷ []
+
+pub cases : List Case
+cases =
+    -- LoadI32 r1 5, AddI32 r2 r1 r1, Ret r2 in function 7, as rewritten:
+    --   F0070003000000000000000000000000
+    --   2B010005000000000000000000000000
+    --   2B02000A000000000000000000000000
+    --   0C010200000000000000000000000000
+    --   rewrites 1
+    record {
+      printed = rewritten (
+          (0xF0 ∷ 7 ∷ 0 ∷ 3 ∷ replicate 12 0) ∷ (0x2B ∷ 1 ∷ 0 ∷ 5 ∷ replicate 12 0) ∷ (0x2B ∷ 2 ∷ 0 ∷ 10 ∷ replicate 12 0) ∷ (0x0C ∷ 1 ∷ 2 ∷ replicate 13 0) ∷ []
+          ) 1;
+      text = (70 ∷ 48 ∷ 48 ∷ 55 ∷ 48 ∷ 48 ∷ 48 ∷ 51 ∷ zeros 24) ++ (50 ∷ 66 ∷ 48 ∷ 49 ∷ 48 ∷ 48 ∷ 48 ∷ 53 ∷ zeros 24)
+          ++ (50 ∷ 66 ∷ 48 ∷ 50 ∷ 48 ∷ 48 ∷ 48 ∷ 65 ∷ zeros 24) ++ (48 ∷ 67 ∷ 48 ∷ 49 ∷ 48 ∷ 50 ∷ zeros 26)
+          ++ (114 ∷ 101 ∷ 119 ∷ 114 ∷ 105 ∷ 116 ∷ 101 ∷ 115 ∷ 32 ∷ 49 ∷ 10 ∷ []);
+    }
+    -- the empty image: `rewrites 0`
+    ∷ record { printed = rewritten [] 0; text = 114 ∷ 101 ∷ 119 ∷ 114 ∷ 105 ∷ 116 ∷ 101 ∷ 115 ∷ 32 ∷ 48 ∷ 10 ∷ [] }
+    -- a length above the limit: `refused 1 0 0`
+    ∷ record { printed = refused 1 0 0; text = 114 ∷ 101 ∷ 102 ∷ 117 ∷ 115 ∷ 101 ∷ 100 ∷ 32 ∷ 49 ∷ 32 ∷ 48 ∷ 32 ∷ 48 ∷ 10 ∷ [] }
+    -- an event's site on no command, in the third function: `refused 26 2 4294967295`
+    ∷ record {
+      printed = refused 26 2 4294967295;
+      text = 114 ∷ 101 ∷ 102 ∷ 117 ∷ 115 ∷ 101 ∷ 100 ∷ 32 ∷ 50 ∷ 54 ∷ 32 ∷ 50 ∷ 32 ∷ 52 ∷ 50 ∷ 57 ∷ 52 ∷ 57 ∷ 54 ∷ 55 ∷ 50 ∷ 57 ∷ 53 ∷ 10 ∷ [];
+    }
+    ∷ []
+
+pub worked : map (λ (c : Case). textOf (c .printed)) cases ≡ map (λ (c : Case). c .text) cases
+unfolding textOf zeros cases decimal rewritesLine rewrittenText refusedText
+worked = refl
