@@ -1,0 +1,438 @@
+#!/usr/bin/env python3
+"""Makes what the program `cases_leaves` runs: its data/vectors.txt, and its expected output, stdout.
+
+Expected values come from exact arithmetic. A binary64 operand is decoded to a fraction, the operation is done on
+fractions.Fraction, and the result is rounded once to nearest, ties to even, by `encode` below. Python's own float
+arithmetic isn't used. I32, U32 and Fx values are Python integers; quads follow from Belnap's order alone.
+The seed is fixed: two runs write the same files.
+"""
+import os
+import random
+from fractions import Fraction
+
+ROOT = os.path.join(os.path.dirname(os.path.abspath(__file__)), "..", "..")
+CASES = os.path.join(ROOT, "crates", "cases_leaves")
+
+# ---- binary64: 1 sign bit, 11 exponent bits, 52 fraction bits
+
+SIGN = 1 << 63
+INFINITY = 0x7FF << 52
+NAN = 0x7FF8000000000000
+LEAST = -1074  # the exponent of the last place of a subnormal
+
+
+def is_nan(bits):
+    return bits % SIGN > INFINITY
+
+
+def is_infinite(bits):
+    return bits % SIGN == INFINITY
+
+
+def is_zero(bits):
+    return bits % SIGN == 0
+
+
+def negative(bits):
+    return bits >= SIGN
+
+
+def decode(bits):
+    """The exact value of finite bits."""
+    exponent, fraction = bits % SIGN >> 52, bits % (1 << 52)
+    digits, place = (fraction, LEAST) if exponent == 0 else (fraction + (1 << 52), exponent - 1 + LEAST)
+    value = Fraction(digits) * Fraction(2) ** place
+    return -value if negative(bits) else value
+
+
+def encode(value, zero_sign):
+    """The bits of value rounded to nearest, ties to even; zero_sign is the sign of an exact zero."""
+    if value == 0:
+        return zero_sign
+    sign, value = (SIGN, -value) if value < 0 else (0, value)
+    top = value.numerator.bit_length() - value.denominator.bit_length()
+    if value < Fraction(2) ** top:
+        top -= 1  # 2^top is at most value, and 2^(top + 1) above it
+    place = max(LEAST, top - 52)
+    scaled = value / Fraction(2) ** place
+    digits, rest = divmod(scaled.numerator, scaled.denominator)
+    twice = 2 * rest
+    if twice > scaled.denominator or (twice == scaled.denominator and digits % 2 == 1):
+        digits += 1
+    if digits == 1 << 53:
+        digits, place = digits >> 1, place + 1
+    if digits < 1 << 52:
+        return sign + digits
+    exponent = place - LEAST + 1
+    return sign + INFINITY if exponent >= 0x7FF else sign + (exponent << 52) + digits - (1 << 52)
+
+
+def add(a, b):
+    if is_nan(a) or is_nan(b):
+        return NAN
+    if is_infinite(a):
+        return NAN if is_infinite(b) and a != b else a
+    if is_infinite(b):
+        return b
+    return encode(decode(a) + decode(b), SIGN if negative(a) and negative(b) else 0)
+
+
+def subtract(a, b):
+    return NAN if is_nan(b) else add(a, b ^ SIGN)
+
+
+def multiply(a, b):
+    sign = (a ^ b) & SIGN
+    if is_nan(a) or is_nan(b):
+        return NAN
+    if is_infinite(a) or is_infinite(b):
+        return NAN if is_zero(a) or is_zero(b) else sign + INFINITY
+    return encode(decode(a) * decode(b), sign)
+
+
+def divide(a, b):
+    """None for a divisor of either zero, which has no result (document 01, module 1)."""
+    sign = (a ^ b) & SIGN
+    if is_zero(b):
+        return None
+    if is_nan(a) or is_nan(b):
+        return NAN
+    if is_infinite(a):
+        return NAN if is_infinite(b) else sign + INFINITY
+    if is_infinite(b):
+        return sign
+    return encode(decode(a) / decode(b), sign)
+
+
+def equal(a, b):
+    if is_nan(a) or is_nan(b):
+        return 0
+    return int(a == b or (is_zero(a) and is_zero(b)))
+
+
+# Published double-precision results. Each is checked against the exact arithmetic above.
+PUBLISHED = [
+    # 0.1 + 0.2 is 0.30000000000000004 (The Python Tutorial, 'Floating-Point Arithmetic: Issues and Limitations')
+    ("add", add, 0x3FB999999999999A, 0x3FC999999999999A, 0x3FD3333333333334),
+    # 1 / 10 is 3602879701896397 / 2^55 (the same page)
+    ("div", divide, 0x3FF0000000000000, 0x4024000000000000, 0x3FB999999999999A),
+    # 1 / 3 is 3FD5555555555555, 3 / 256 is 3F88000000000000 (Wikipedia, 'Double-precision floating-point format')
+    ("div", divide, 0x3FF0000000000000, 0x4008000000000000, 0x3FD5555555555555),
+    ("div", divide, 0x4008000000000000, 0x4070000000000000, 0x3F88000000000000),
+    # the next number after 1, the largest subnormal and the least normal number (the same page)
+    ("add", add, 0x3FF0000000000000, 0x3CB0000000000000, 0x3FF0000000000001),
+    ("sub", subtract, 0x0010000000000000, 0x0000000000000001, 0x000FFFFFFFFFFFFF),
+    ("add", add, 0x000FFFFFFFFFFFFF, 0x0000000000000001, 0x0010000000000000),
+    # 1 - 3 * (4 / 3 - 1) is 2^-52 (MATLAB documentation, 'Floating-Point Numbers'), step by step
+    ("div", divide, 0x4010000000000000, 0x4008000000000000, 0x3FF5555555555555),
+    ("sub", subtract, 0x3FF5555555555555, 0x3FF0000000000000, 0x3FD5555555555554),
+    ("mul", multiply, 0x4008000000000000, 0x3FD5555555555554, 0x3FEFFFFFFFFFFFFE),
+    ("sub", subtract, 0x3FF0000000000000, 0x3FEFFFFFFFFFFFFE, 0x3CB0000000000000),
+    # 2^53 + 1 is 2^53: the first integer that isn't a double (ECMA-262, Number.MAX_SAFE_INTEGER)
+    ("add", add, 0x4340000000000000, 0x3FF0000000000000, 0x4340000000000000),
+    # the largest number doubled is infinity; half the least subnormal is 0 (IEEE 754-2019, 7.4 and 7.5)
+    ("add", add, 0x7FEFFFFFFFFFFFFF, 0x7FEFFFFFFFFFFFFF, 0x7FF0000000000000),
+    ("mul", multiply, 0x0000000000000001, 0x3FE0000000000000, 0x0000000000000000),
+    # invalid operations give NaN (IEEE 754-2019, 7.2)
+    ("sub", subtract, 0x7FF0000000000000, 0x7FF0000000000000, 0x7FF8000000000000),
+    ("mul", multiply, 0x0000000000000000, 0xFFF0000000000000, 0x7FF8000000000000),
+    ("div", divide, 0xFFF0000000000000, 0x7FF0000000000000, 0x7FF8000000000000),
+    # the sign of a zero (IEEE 754-2019, 6.3)
+    ("sub", subtract, 0x3FF0000000000000, 0x3FF0000000000000, 0x0000000000000000),
+    ("add", add, 0x8000000000000000, 0x8000000000000000, 0x8000000000000000),
+    ("add", add, 0x8000000000000000, 0x0000000000000000, 0x0000000000000000),
+    ("mul", multiply, 0x8000000000000000, 0x3FF0000000000000, 0x8000000000000000),
+    # 4195835 / 3145727 is 1.333820449136241, which a flawed Pentium gave as 1.33373 (T. Nicely, 1994)
+    ("div", divide, 0x4150017EC0000000, 0x4147FFFF80000000, 0x3FF557541C7C6B43),
+]
+
+EDGES = [
+    0x0000000000000000,
+    0x0000000000000001,
+    0x0000000000000003,
+    0x000FFFFFFFFFFFFF,
+    0x0010000000000000,
+    0x0010000000000001,
+    0x3CA0000000000000,  # 2^-53, half the last place of 1
+    0x3CA0000000000001,
+    0x3FDFFFFFFFFFFFFF,
+    0x3FE0000000000000,
+    0x3FF0000000000000,
+    0x3FF0000000000001,
+    0x3FF8000000000000,
+    0x3FFFFFFFFFFFFFFF,
+    0x4008000000000000,
+    0x433FFFFFFFFFFFFF,
+    0x4340000000000000,
+    0x4340000000000001,
+    0x7C90000000000000,  # 2^970, half the last place of the largest number
+    0x7C8FFFFFFFFFFFFF,
+    0x7FE0000000000000,
+    0x7FEFFFFFFFFFFFFF,
+    0x7FF0000000000000,
+    0x7FF0000000000001,  # a signalling NaN
+    0x7FF8000000000000,
+    0x7FF8DEADBEEF0001,  # a NaN with a payload
+]
+EDGES += [SIGN + bits for bits in EDGES]
+
+
+def ties(rng, name):
+    """Operands whose exact result lies halfway between two neighbours, with an even and an odd lower one."""
+    if name in ("add", "sub"):
+        # digits at 2^0 and half a last place
+        one, half = 0x3FF0000000000000, 0x3CA0000000000000
+        base = one + rng.randrange(1 << 52)
+        return (base, half + (SIGN if name == "sub" else 0))
+    if name == "mul":
+        # (2^27 + i) (2^26 + j), both odd: 54 digits, the last of which is 1
+        a, b = (1 << 27) + 2 * rng.randrange(1 << 25) + 1, (1 << 26) + 2 * rng.randrange(1 << 25) + 1
+        return (encode(Fraction(a), 0), encode(Fraction(b), 0))
+    # a quotient is halfway only below the normal numbers: an odd multiple of 2^-1074 by 2
+    return (2 * rng.randrange(1 << 50) + 1, 0x4000000000000000 + SIGN * rng.randrange(2))
+
+
+def subnormal(rng, name):
+    """Operands whose result lies near the subnormal numbers."""
+    small = rng.randrange(1 << 54)
+    if name in ("add", "sub"):
+        return (small, rng.randrange(1 << 54) + SIGN * rng.randrange(2))
+    if name == "mul":
+        return (small, rng.randrange(0x3F00000000000000, 0x4010000000000000))
+    return (small, rng.randrange(0x3FF0000000000000, 0x4100000000000000))
+
+
+def huge(rng, name):
+    """Operands whose result lies near the largest number."""
+    top = rng.randrange(0x7FD0000000000000, INFINITY)
+    if name in ("add", "sub"):
+        return (top, rng.randrange(0x7C80000000000000, INFINITY) + (SIGN if name == "sub" else 0))
+    near = rng.randrange(0x3FE0000000000000, 0x4010000000000000)
+    return (top, near)
+
+
+def anything(rng, name):
+    return (rng.randrange(1 << 64), rng.randrange(1 << 64))
+
+
+def near(rng, name):
+    """Two ordinary numbers of close exponents."""
+    return tuple(rng.randrange(0x3F80000000000000, 0x4080000000000000) + SIGN * rng.randrange(2) for _ in "ab")
+
+
+def floats(rng, name, operation, count):
+    rows, seen = [], set()
+
+    def keep(a, b):
+        if (a, b) not in seen and operation(a, b) is not None:
+            seen.add((a, b))
+            rows.append((a, b, 1, operation(a, b)))
+
+    while len(rows) < 50:
+        keep(rng.choice(EDGES), rng.choice(EDGES))
+    for kind in (ties, subnormal, huge, near, anything):
+        wanted = len(rows) + (count - 50) // 5
+        while len(rows) < wanted:
+            keep(*kind(rng, name))
+    return rows
+
+
+# ---- integers and Fx
+
+I32_EDGES = [0, -1, 7, (1 << 31) - 1, -(1 << 31)]
+U32_EDGES = [0, 1, 65536, (1 << 32) - 1]
+FX_EDGES = [0, -1, 1500, (1 << 31) - 1, -(1 << 31)]
+
+
+def wrapped(n):
+    return (n + (1 << 31)) % (1 << 32) - (1 << 31)
+
+
+def in_i32(n):
+    return n if -(1 << 31) <= n < 1 << 31 else None
+
+
+def in_u32(n):
+    return n if 0 <= n < 1 << 32 else None
+
+
+def truncated(a, b):
+    quotient = abs(a) // abs(b)
+    return quotient if (a < 0) == (b < 0) else -quotient
+
+
+def divided(a, b):
+    return None if b == 0 else in_i32(truncated(a, b))
+
+
+def remainder(a, b):
+    return None if divided(a, b) is None else a - b * truncated(a, b)
+
+
+I32 = [
+    ("add", lambda a, b: wrapped(a + b)),
+    ("sub", lambda a, b: wrapped(a - b)),
+    ("mul", lambda a, b: wrapped(a * b)),
+    ("div", divided),
+    ("mod", remainder),
+    ("lt", lambda a, b: int(a < b)),
+    ("le", lambda a, b: int(a <= b)),
+]
+U32 = [
+    ("add", lambda a, b: in_u32(a + b)),
+    ("sub", lambda a, b: in_u32(a - b)),
+    ("mul", lambda a, b: in_u32(a * b)),
+    ("div", lambda a, b: a // b if b else None),
+    ("mod", lambda a, b: a % b if b else None),
+    ("lt", lambda a, b: int(a < b)),
+    ("le", lambda a, b: int(a <= b)),
+]
+FX = [
+    ("add", lambda a, b: in_i32(a + b)),
+    ("sub", lambda a, b: in_i32(a - b)),
+    ("mul", lambda a, b: in_i32(truncated(a * b, 1000))),
+    ("div", lambda a, b: in_i32(truncated(a * 1000, b)) if b else None),
+]
+
+# Document 01's starred cases: kind, operation, operands, result.
+STARRED = [
+    (I32, "add", 2147483647, 1, -2147483648),
+    (I32, "div", -7, 2, -3),
+    (I32, "mod", -7, 2, -1),
+    (I32, "div", -2147483648, -1, None),
+    (U32, "sub", 0, 1, None),
+    (FX, "mul", 1500, 1500, 2250),
+    (FX, "mul", -1, 1, 0),
+    (FX, "mul", 2147483647, 1000, 2147483647),
+    (FX, "mul", 2147483647, 1001, None),
+]
+
+
+def integers(rng, kind, name, operation, edges, low, high):
+    pairs = [(a, b) for k, n, a, b, result in STARRED if k is kind and n == name]
+    pairs += [(a, b) for a in edges for b in edges]
+    pairs += [(rng.randrange(low, high), rng.randrange(low, high)) for _ in range(4)]
+    pairs += [(rng.randrange(low, high), rng.randrange(-1000 if low else 0, 1000)) for _ in range(4)]
+    rows = []
+    for a, b in dict.fromkeys(pairs):
+        result = operation(a, b)
+        rows.append((a % (1 << 32), b % (1 << 32), int(result is not None), (result or 0) % (1 << 32)))
+    return rows
+
+
+# ---- quads, from the approximation order alone: N below F and T, both below S
+
+N, F, T, S = range(4)
+BELOW = {(N, x) for x in range(4)} | {(x, S) for x in range(4)} | {(x, x) for x in range(4)}
+
+
+def greatest_lower(a, b):
+    lower = [x for x in range(4) if (x, a) in BELOW and (x, b) in BELOW]
+    return next(x for x in lower if all((y, x) in BELOW for y in lower))
+
+
+def least_upper(a, b):
+    upper = [x for x in range(4) if (a, x) in BELOW and (b, x) in BELOW]
+    return next(x for x in upper if all((x, y) in BELOW for y in upper))
+
+
+def exchanged(a):
+    return {F: T, T: F}.get(a, a)
+
+
+QUAD = [
+    ("and", greatest_lower),
+    ("or", least_upper),
+    ("impl", lambda a, b: least_upper(exchanged(a), b)),
+]
+assert greatest_lower(T, F) == N and least_upper(T, F) == S and QUAD[2][1](F, N) == T
+
+# ---- equality of constants: of one kind by its bits, and of two kinds, numbered as ConstVal's cases are
+
+EQUAL = [
+    ("quad", range(4), lambda a, b: int(a == b)),
+    ("bool", range(2), lambda a, b: int(a == b)),
+    ("f64", [0, SIGN, 0x3FF0000000000000, INFINITY, NAN, 0x7FF0000000000001], equal),
+    ("i32", [0, 1, 0x80000000], lambda a, b: int(a == b)),
+    ("u32", [0, 1, 0x80000000], lambda a, b: int(a == b)),
+    ("fx", [0, 1, 0x80000000], lambda a, b: int(a == b)),
+]
+KINDS = ["unknown", "quad", "bool", "f64", "i32", "u32", "fx"]
+assert equal(0, SIGN) == 1
+
+# ---- writing
+
+# The program's numbers of the leaves: a kind, and a leaf of it.
+LEAF = {"f64": 0x10, "i32": 0x20, "u32": 0x30, "fx": 0x40, "quad": 0x50, "bool": 0x60, "eq": 0x70}
+LINE = 50  # bytes of a line before its end
+
+
+def line(text):
+    assert len(text) <= LINE
+    return text.ljust(LINE) + "\n"
+
+
+def row(left, right, present, result):
+    return line("%016X %016X %s" % (left, right, "%016X" % result if present else "none"))
+
+
+def write(path, text):
+    path = os.path.join(CASES, path)
+    os.makedirs(os.path.dirname(path), exist_ok=True)
+    with open(path, "w") as out:
+        out.write(text)
+
+
+def main():
+    rng = random.Random(754)
+    groups = []  # the leaf's number, the group's name, and its rows
+
+    def group(kind, leaf, name, rows):
+        groups.append((LEAF[kind] + leaf, name, rows))
+
+    for name, operation, a, b, bits in PUBLISHED:
+        assert operation(a, b) == bits, (name, hex(a), hex(b), hex(operation(a, b)))
+    operations = [("add", add), ("sub", subtract), ("mul", multiply), ("div", divide)]
+    for leaf, (name, operation) in enumerate(operations, 1):
+        rows = [(a, b, 1, bits) for n, _, a, b, bits in PUBLISHED if n == name]
+        group("f64", leaf, "f64 %s, published" % name, rows)
+    for leaf, (name, operation) in enumerate(operations, 1):
+        group("f64", leaf, "f64 " + name, floats(rng, name, operation, 105))
+    rows = [(a, b, 0, 0) for a in (0, SIGN, 1, 0x3FF0000000000000, INFINITY, 0x7FF8DEADBEEF0001) for b in (0, SIGN)]
+    assert all(divide(a, b) is None for a, b, _, _ in rows)
+    group("f64", 4, "f64 div by zero", rows)
+    group("f64", 0, "f64 bits", [(a, 0, 1, NAN if is_nan(a) else a) for a in EDGES])
+
+    for label, kind, edges, low, high in (
+        ("i32", I32, I32_EDGES, -(1 << 31), 1 << 31),
+        ("u32", U32, U32_EDGES, 0, 1 << 32),
+        ("fx", FX, FX_EDGES, -(1 << 31), 1 << 31),
+    ):
+        for leaf, (name, operation) in enumerate(kind, 1):
+            for k, n, a, b, result in STARRED:
+                assert k is not kind or n != name or operation(a, b) == result
+            group(label, leaf, "%s %s" % (label, name), integers(rng, kind, name, operation, edges, low, high))
+
+    for leaf, (name, operation) in enumerate(QUAD, 1):
+        group("quad", leaf, "quad " + name, [(a, b, 1, operation(a, b)) for a in range(4) for b in range(4)])
+    group("quad", 4, "quad not", [(a, 0, 1, exchanged(a)) for a in range(4)])
+    numbers = (0, 1, 2, 3, 4, 5, 6, 7, 128, 252, 254, 255)
+    group("quad", 0, "quad number", [(n, 0, int(n < 4), n if n < 4 else 0) for n in numbers])
+    for leaf, (name, operation) in enumerate((("and", lambda a, b: a & b), ("or", lambda a, b: a | b)), 1):
+        group("bool", leaf, "bool " + name, [(a, b, 1, operation(a, b)) for a in range(2) for b in range(2)])
+    group("bool", 3, "bool not", [(a, 0, 1, 1 - a) for a in range(2)])
+
+    for leaf, (name, operands, operation) in enumerate(EQUAL, 1):
+        group("eq", leaf, "const eq, " + name, [(a, b, 1, operation(a, b)) for a in operands for b in operands])
+    # The zeros of two kinds differ, and Unknown equals none.
+    rows = [(a, b, 1, 0) for a in range(len(KINDS)) for b in range(len(KINDS)) if a != b or a == 0]
+    group("eq", 0, "const eq, two kinds", rows)
+
+    text = [line("# %02X %s" % (leaf, name)) + "".join(row(*r) for r in rows) for leaf, name, rows in groups]
+    write("data/vectors.txt", "".join(text))
+    write("stdout", "".join("%s: %d passed\n" % (name, len(rows)) for _, name, rows in groups))
+    print("%d vectors in %d groups" % (sum(len(rows) for _, _, rows in groups), len(groups)))
+
+
+if __name__ == "__main__":
+    main()
