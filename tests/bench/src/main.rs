@@ -1,0 +1,135 @@
+//! Times the original's `run_default_opt_passes` and, with the feature `library`,
+//! the proved rewrite on the same images, in one process.
+
+mod images;
+
+use differential::answers::Operation;
+use differential::cells::{CELL, MAX_IMAGE};
+use differential::legacy_lowering::IrFunction;
+use differential::{codec, original};
+use std::hint::black_box;
+use std::time::{Duration, Instant};
+
+/// How long one figure is measured, unless `--milliseconds` says otherwise.
+const TIME: Duration = Duration::from_millis(400);
+
+fn main() {
+    let time = match std::env::args().skip(1).collect::<Vec<_>>().as_slice() {
+        [] => TIME,
+        [word, value] if word == "--milliseconds" && value.parse::<u64>().is_ok() => {
+            Duration::from_millis(value.parse().unwrap())
+        }
+        _ => {
+            eprintln!("usage: [--milliseconds N]");
+            std::process::exit(2);
+        }
+    };
+
+    println!("ns for one image, the fastest of many rounds; outputs are lent once and not cleared");
+    let image = vec![0x5A; MAX_IMAGE];
+    let mut out = output(MAX_IMAGE);
+    let out = &mut out[APART..];
+    let copy = measure(
+        time,
+        || (),
+        |()| {
+            out.copy_from_slice(black_box(&image));
+            black_box(&mut *out);
+        },
+    );
+    println!("copy of {MAX_IMAGE} bytes: {copy}");
+
+    let ours = if cfg!(feature = "library") { "ours" } else { "(no library)" };
+    println!(
+        "{:24} {:>6} {:>9} {:>12} {:>12} {:>12} {:>9} {:>9}",
+        "image", "cells", "rewrites", "passes", "with codec", ours, "ratio", "with codec"
+    );
+    for (name, image) in images::rows() {
+        row(time, name, &image);
+    }
+    println!("ratio: our time divided by the original's, without and with decoding and encoding");
+}
+
+/// Image and output shouldn't start at the same place of a page: writes then look to the
+/// processor as if they met the reads.
+const APART: usize = 2048;
+
+/// A buffer whose part from `APART` on is lent.
+fn output(length: usize) -> Vec<u8> {
+    vec![0; APART + length]
+}
+
+fn row(time: Duration, name: &str, image: &[u8]) {
+    let functions = codec::decode(image);
+    let run = |mut functions: Vec<IrFunction>| {
+        let report = original::run(Operation::Rewrite, &mut functions).unwrap();
+        (report, functions)
+    };
+    let (report, _) = run(functions.clone());
+
+    // The passes take the list apart, so each round gets its own copy, made outside the time.
+    let passes = measure(time, || functions.clone(), |functions| black_box(run(functions)));
+    let with_codec = measure(
+        time,
+        || (),
+        |()| {
+            let (_, functions) = run(codec::decode(black_box(image)));
+            codec::encode(&functions)
+        },
+    );
+    let ours = measure_ours(time, image);
+
+    let cells = image.len() / CELL;
+    let text = |number: Option<f64>| number.map_or("-".into(), |number| format!("{number:.2}"));
+    println!(
+        "{name:24} {cells:>6} {:>9} {passes:>12} {with_codec:>12} {:>12} {:>9} {:>9}",
+        report.num_rewrites,
+        ours.map_or("-".into(), |ours| ours.to_string()),
+        text(ours.map(|ours| ours as f64 / passes as f64)),
+        text(ours.map(|ours| ours as f64 / with_codec as f64)),
+    );
+}
+
+#[cfg(feature = "library")]
+fn measure_ours(time: Duration, image: &[u8]) -> Option<u128> {
+    use differential::answers::Operations;
+    use differential::library::Library;
+    let mut out = output(image.len());
+    let out = &mut out[APART..];
+    Some(measure(
+        time,
+        || (),
+        |()| {
+            let answer = Library.rewrite(black_box(image), out);
+            black_box(&mut *out);
+            answer.unwrap()
+        },
+    ))
+}
+
+#[cfg(not(feature = "library"))]
+fn measure_ours(_: Duration, _: &[u8]) -> Option<u128> {
+    None
+}
+
+/// The time of the fastest round, in ns: the one that other programs disturbed least.
+/// Neither what `prepare` does nor the end of what `run` gives is part of it.
+fn measure<P, R>(
+    time: Duration,
+    mut prepare: impl FnMut() -> P,
+    mut run: impl FnMut(P) -> R,
+) -> u128 {
+    black_box(run(prepare()));
+    let mut fastest = u128::MAX;
+    let mut rounds = 0;
+    let deadline = Instant::now() + time;
+    while rounds < 10 || Instant::now() < deadline {
+        let prepared = prepare();
+        let start = Instant::now();
+        let result = black_box(run(prepared));
+        fastest = fastest.min(start.elapsed().as_nanos());
+        rounds += 1;
+        drop(result);
+    }
+    fastest
+}

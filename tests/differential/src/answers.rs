@@ -1,0 +1,72 @@
+//! The answers of the five operations.
+
+use std::fmt;
+
+/// A refusal's number, the function's position and the detail.
+#[derive(Debug, Clone, Copy, PartialEq, Eq)]
+pub struct Refusal {
+    pub number: u8,
+    pub position: u32,
+    pub detail: u32,
+}
+
+/// The length written and the report.
+#[derive(Debug, Clone, Copy, PartialEq, Eq)]
+pub struct Success {
+    pub length: usize,
+    pub num_rewrites: u32,
+    pub changed: bool,
+}
+
+pub type Checked = Result<(), Refusal>;
+pub type Rewritten = Result<Success, Refusal>;
+
+impl fmt::Display for Refusal {
+    fn fmt(&self, f: &mut fmt::Formatter) -> fmt::Result {
+        write!(f, "refused {} {} {}", self.number, self.position, self.detail)
+    }
+}
+
+impl fmt::Display for Success {
+    fn fmt(&self, f: &mut fmt::Formatter) -> fmt::Result {
+        let Success { length, num_rewrites, changed } = self;
+        write!(f, "length {length}, rewrites {num_rewrites}, changed {changed}")
+    }
+}
+
+pub fn checked_text(answer: &Checked) -> String {
+    answer.map_or_else(|refusal| refusal.to_string(), |()| "good".into())
+}
+
+pub fn rewritten_text(answer: &Rewritten) -> String {
+    answer.map_or_else(|refusal| refusal.to_string(), |success| success.to_string())
+}
+
+/// The operations that write.
+#[derive(Debug, Clone, Copy, PartialEq, Eq)]
+pub enum Operation {
+    Rewrite,
+    Cleanup,
+    CrystalFold,
+}
+
+pub const OPERATIONS: [Operation; 3] =
+    [Operation::Rewrite, Operation::Cleanup, Operation::CrystalFold];
+
+/// Someone who answers: the model, the proved library, or a wrong program.
+pub trait Operations: Sync {
+    fn name(&self) -> &'static str;
+    fn image_check(&self, image: &[u8]) -> Checked;
+    fn site_check(&self, image: &[u8]) -> Checked;
+    fn cleanup(&self, image: &[u8], out: &mut [u8]) -> Rewritten;
+    fn crystalfold(&self, image: &[u8], out: &mut [u8]) -> Rewritten;
+    fn rewrite(&self, image: &[u8], out: &mut [u8]) -> Rewritten;
+
+    fn run(&self, operation: Operation, image: &[u8], out: &mut [u8]) -> Rewritten {
+        match operation {
+            Operation::Rewrite => self.rewrite(image, out),
+            Operation::Cleanup => self.cleanup(image, out),
+            Operation::CrystalFold => self.crystalfold(image, out),
+        }
+    }
+}

@@ -1,0 +1,853 @@
+//! Images: every short one over small alphabets, every byte of every command,
+//! every fold at its edges; random ones, ones around the limits, damaged ones.
+
+use crate::cells::{self, Cell, CELL, MAX_EVENTS, MAX_IMAGE, MAX_INSTRS};
+use crate::codec::Form;
+use crate::leaves::{self, Const};
+use crate::legacy_lowering::{byte, COMMANDS};
+use crate::random::Random;
+use crate::runs::{any_const, edges, kind_of};
+use crate::table;
+
+// ---- Cells ----
+
+fn cell(command: u8, operands: &[u8]) -> Cell {
+    let mut cell = [0; CELL];
+    cell[0] = command;
+    cell[1..1 + operands.len()].copy_from_slice(operands);
+    cell
+}
+
+pub fn label(name: u16) -> Cell {
+    cell(byte::Label, &name.to_le_bytes())
+}
+
+pub fn jmp(name: u16) -> Cell {
+    cell(byte::Jmp, &name.to_le_bytes())
+}
+
+pub fn jmp_if(cond: u8, name: u16) -> Cell {
+    let [low, high] = name.to_le_bytes();
+    cell(byte::JmpIf, &[cond, 0, low, high])
+}
+
+pub fn ret(src: Option<u8>) -> Cell {
+    cell(byte::Ret, &[src.is_some() as u8, src.unwrap_or(0), 0])
+}
+
+pub fn load_i32(dst: u8, val: i32) -> Cell {
+    leaves::load(dst as usize, Const::I32(val))
+}
+
+/// A command with dst and two operands, or dst and one.
+pub fn computed(command: u8, dst: u8, lhs: u8, rhs: u8) -> Cell {
+    match leaves::operands(command) {
+        Some(1) => cell(command, &[dst, 0, lhs, 0]),
+        _ => cell(command, &[dst, 0, lhs, 0, rhs, 0]),
+    }
+}
+
+fn put_site(cell: &mut Cell, place: usize, site: Option<u32>) {
+    cell[place] = site.is_some() as u8;
+    cell[place + 1..place + 5].copy_from_slice(&site.unwrap_or(0).to_le_bytes());
+}
+
+pub fn store_var(src: u8, activation_site: Option<u32>, write_site: Option<u32>) -> Cell {
+    let mut cell = cell(byte::StoreVar, &[9, 0, src, 0]);
+    put_site(&mut cell, 5, activation_site);
+    put_site(&mut cell, 10, write_site);
+    cell
+}
+
+pub fn make_record(dst: u8, write_site: Option<u32>) -> Cell {
+    let mut cell = cell(byte::MakeRecord, &[dst, 0, 9, 0, 8, 0]);
+    put_site(&mut cell, 7, write_site);
+    cell
+}
+
+pub fn event(kind: u8, activation_site: Option<u32>, write_site: Option<u32>) -> Cell {
+    let mut cell = [0; CELL];
+    cell[0] = kind;
+    put_site(&mut cell, cells::EVENT_ACTIVATION_SITE, activation_site);
+    put_site(&mut cell, cells::EVENT_WRITE_SITE, write_site);
+    cell[11] = 6;
+    cell
+}
+
+pub fn borrow(activation_site: Option<u32>) -> Cell {
+    event(cells::EVENT_BORROW, activation_site, None)
+}
+
+pub fn write(write_site: u32) -> Cell {
+    event(cells::EVENT_WRITE, None, Some(write_site))
+}
+
+pub fn one_function(instrs: &[Cell], events: &[Cell]) -> Vec<u8> {
+    let mut image = Vec::with_capacity(CELL * (1 + instrs.len() + events.len()));
+    cells::push_function(&mut image, 7, instrs, events);
+    image
+}
+
+// ---- Exhaustive groups ----
+
+/// A numbered list of images.
+pub struct Exhaustive {
+    pub name: &'static str,
+    pub count: usize,
+    pub image: Box<dyn Fn(usize) -> Vec<u8> + Sync>,
+    /// Lengths of the lent outputs, less the image's.
+    pub more: &'static [isize],
+    /// This many of the first images are run too.
+    pub run: usize,
+}
+
+/// Less than the length of any image: an output of no bytes.
+pub const NO_OUTPUT: isize = -(1 << 20);
+
+pub fn exhaustive() -> Vec<Exhaustive> {
+    vec![
+        every_length(),
+        short_lists(),
+        short_sites(),
+        short_with_events(),
+        every_pair(),
+        every_byte(),
+        every_fold(),
+    ]
+}
+
+/// Images of every length up to five cells and of those around the greatest, good
+/// up to their last whole cell.
+pub fn every_length() -> Exhaustive {
+    let lengths: Vec<usize> = (0..=5 * CELL).chain(MAX_IMAGE - 17..=MAX_IMAGE + 33).collect();
+    Exhaustive {
+        name: "every length",
+        run: 0,
+        more: &[NO_OUTPUT, -17, -16, -15, -1, 0, 1, 15, 16, 17],
+        count: lengths.len(),
+        image: Box::new(move |index| {
+            let mut image = Vec::new();
+            while image.len() < lengths[index] {
+                cells::push_function(&mut image, 7, &[], &[]);
+            }
+            image.truncate(lengths[index]);
+            image
+        }),
+    }
+}
+
+/// The longest of the short lists, in cells.
+const SHORT: usize = 5;
+
+/// The `index`th list over an alphabet, shorter lists first.
+fn word(alphabet: &[Cell], mut index: usize) -> Vec<Cell> {
+    let mut length = 0;
+    let mut count = 1;
+    while index >= count {
+        index -= count;
+        count *= alphabet.len();
+        length += 1;
+    }
+    let letters = (0..length).map(|_| {
+        let letter = alphabet[index % alphabet.len()];
+        index /= alphabet.len();
+        letter
+    });
+    letters.collect()
+}
+
+fn words(alphabet: &[Cell], longest: usize) -> usize {
+    (0..=longest as u32).map(|length| alphabet.len().pow(length)).sum()
+}
+
+/// Labels, jumps, loads and folds.
+fn short_lists() -> Exhaustive {
+    let alphabet = vec![
+        label(1),
+        label(2),
+        jmp(1),
+        jmp(2),
+        jmp_if(1, 1),
+        ret(None),
+        ret(Some(1)),
+        load_i32(1, 5),
+        load_i32(2, 7),
+        leaves::load(1, Const::Bool(true)),
+        leaves::load(1, Const::U32(3)),
+        computed(byte::AddI32, 2, 1, 1),
+        computed(byte::AddI32, 1, 1, 2),
+        computed(byte::CmpEq, 1, 1, 2),
+        cell(byte::LoadVar, &[1, 0, 9, 0]),
+    ];
+    Exhaustive {
+        name: "short lists",
+        more: &[0],
+        run: words(&alphabet, SHORT - 1),
+        count: words(&alphabet, SHORT),
+        image: Box::new(move |index| one_function(&word(&alphabet, index), &[])),
+    }
+}
+
+/// Sites on commands and events, coherent or not, up to five cells together.
+fn short_sites() -> Exhaustive {
+    let instrs = [
+        store_var(1, Some(1), None),
+        store_var(1, Some(2), None),
+        store_var(1, None, Some(1)),
+        store_var(1, Some(1), Some(2)),
+        make_record(1, Some(1)),
+        make_record(1, Some(2)),
+        ret(None),
+        jmp(1),
+        label(1),
+    ];
+    let events = [
+        borrow(None),
+        borrow(Some(1)),
+        borrow(Some(2)),
+        write(1),
+        write(2),
+        event(cells::EVENT_WRITE, None, None),
+        event(cells::EVENT_WRITE, Some(1), Some(1)),
+        event(cells::EVENT_BORROW, Some(1), Some(1)),
+        event(cells::EVENT_BORROW, None, Some(1)),
+    ];
+    // A list of each alphabet, the first of every length up to five.
+    let letters = instrs.len();
+    let splits: Vec<(usize, usize)> = (0..=SHORT)
+        .flat_map(|together| (0..=together).map(move |first| (first, together - first)))
+        .collect();
+    let sizes: Vec<usize> =
+        splits.iter().map(|(first, second)| letters.pow((first + second) as u32)).collect();
+    Exhaustive {
+        name: "short sites",
+        more: &[0],
+        run: 0,
+        count: sizes.iter().sum(),
+        image: Box::new(move |mut index| {
+            let mut split = 0;
+            while index >= sizes[split] {
+                index -= sizes[split];
+                split += 1;
+            }
+            let (first, second) = splits[split];
+            let mut letter = |alphabet: &[Cell]| {
+                let letter = alphabet[index % letters];
+                index /= letters;
+                letter
+            };
+            let instrs: Vec<Cell> = (0..first).map(|_| letter(&instrs)).collect();
+            let events: Vec<Cell> = (0..second).map(|_| letter(&events)).collect();
+            one_function(&instrs, &events)
+        }),
+    }
+}
+
+/// Labels, jumps, loads, folds and sites, with the events that the sites ask for.
+fn short_with_events() -> Exhaustive {
+    let alphabet = vec![
+        label(1),
+        label(2),
+        jmp(1),
+        jmp(2),
+        ret(None),
+        load_i32(1, 5),
+        leaves::load(1, Const::Bool(true)),
+        computed(byte::AddI32, 2, 1, 1),
+        store_var(1, Some(1), None),
+        store_var(1, None, Some(1)),
+        make_record(1, Some(2)),
+        store_var(1, Some(3), Some(3)),
+    ];
+    Exhaustive {
+        name: "short with events",
+        more: &[0],
+        run: 0,
+        count: words(&alphabet, SHORT),
+        image: Box::new(move |index| {
+            let instrs = word(&alphabet, index);
+            let events = events_for(&instrs, |_| 2);
+            one_function(&instrs, &events)
+        }),
+    }
+}
+
+/// The events that make a function's sites good; a MakeRecord's site gets as many as `writes` says.
+fn events_for(instrs: &[Cell], mut writes: impl FnMut(u32) -> usize) -> Vec<Cell> {
+    let mut events = Vec::new();
+    for cell in instrs {
+        let Some(layout) = table::layout(cell[0]) else {
+            continue;
+        };
+        if let Some(site) = layout.activation_site.and_then(|place| cells::site(cell, place)) {
+            events.push(borrow(Some(site)));
+        }
+        if let Some(site) = layout.write_site.and_then(|place| cells::site(cell, place)) {
+            let count = if cell[0] == byte::StoreVar { 1 } else { writes(site) };
+            events.extend((0..count).map(|_| write(site)));
+        }
+    }
+    events
+}
+
+/// Every two commands after two loads and before a fold of what these loaded.
+fn every_pair() -> Exhaustive {
+    let mut letters = Vec::new();
+    for command in COMMANDS {
+        for register in [1, 2] {
+            letters.push(filled(command.byte, false, register));
+            letters.push(filled(command.byte, true, register));
+        }
+    }
+    Exhaustive {
+        name: "every pair",
+        more: &[0],
+        run: letters.len() * letters.len(),
+        count: letters.len() * letters.len(),
+        image: Box::new(move |index| {
+            let instrs = [
+                load_i32(1, 5),
+                load_i32(2, 7),
+                letters[index / letters.len()],
+                letters[index % letters.len()],
+                computed(byte::AddI32, 3, 1, 2),
+            ];
+            one_function(&instrs, &events_for(&instrs, |_| 1))
+        }),
+    }
+}
+
+/// Every value of every byte of every command, of both events and of a head,
+/// optional operands absent and present.
+fn every_byte() -> Exhaustive {
+    let mut bases = Vec::new();
+    for command in COMMANDS {
+        for present in [false, true] {
+            bases.push((filled(command.byte, present, 2), false));
+        }
+    }
+    for kind in [cells::EVENT_BORROW, cells::EVENT_WRITE] {
+        for site in [None, Some(1)] {
+            bases.push((event(kind, site, None), true));
+            bases.push((event(kind, None, site), true));
+        }
+    }
+    let per_base = CELL * 256;
+    let cells = bases.len() * per_base;
+    Exhaustive {
+        name: "every byte",
+        more: &[0],
+        run: 0,
+        count: cells + per_base,
+        image: Box::new(move |index| {
+            let (place, value) = (index % per_base / 256, (index % 256) as u8);
+            let Some((base, is_event)) = bases.get(index / per_base) else {
+                let mut image = one_function(&[load_i32(1, 5)], &[borrow(None)]);
+                image[place] = value;
+                return image;
+            };
+            let mut cell = *base;
+            cell[place] = value;
+            if *is_event {
+                // A cell with the same sites, so that some of them are good.
+                let site = cells::site(&cell, cells::EVENT_ACTIVATION_SITE);
+                let write_site = cells::site(&cell, cells::EVENT_WRITE_SITE);
+                one_function(&[store_var(1, site, write_site)], &[cell])
+            } else {
+                let events = events_for(&[cell], |_| 1);
+                one_function(&[cell], &events)
+            }
+        }),
+    }
+}
+
+/// A good cell of a command; its registers, names, sites and numbers are all `number`.
+fn filled(command: u8, present: bool, number: u8) -> Cell {
+    let mut cell = [0; CELL];
+    cell[0] = command;
+    for &(form, place) in &table::layout(command).unwrap().places {
+        match form {
+            Form::OptionalRegister | Form::Site if !present => {}
+            Form::OptionalRegister | Form::Site => {
+                cell[place..place + 2].copy_from_slice(&[1, number]);
+            }
+            Form::Quad | Form::Bool => cell[place] = present as u8,
+            _ => cell[place] = number,
+        }
+    }
+    cell
+}
+
+/// Every computed command on every two edge values of all kinds.
+fn every_fold() -> Exhaustive {
+    let commands: Vec<u8> = computed_commands().collect();
+    let values: Vec<Const> = (0..6).flat_map(edges).collect();
+    let pairs = values.len() * values.len();
+    Exhaustive {
+        name: "every fold",
+        more: &[0],
+        run: commands.len() * pairs,
+        count: commands.len() * pairs,
+        image: Box::new(move |index| {
+            let command = commands[index / pairs];
+            let left = values[index % pairs / values.len()];
+            let right = values[index % values.len()];
+            let instrs = [
+                leaves::load(1, left),
+                leaves::load(255, right),
+                computed(command, 3, 1, 255),
+                computed(byte::CmpEq, 4, 3, 1),
+            ];
+            one_function(&instrs, &[])
+        }),
+    }
+}
+
+/// The commands that CrystalFold may fold.
+pub fn computed_commands() -> impl Iterator<Item = u8> {
+    COMMANDS.iter().map(|command| command.byte).filter(|byte| leaves::operands(*byte).is_some())
+}
+
+// ---- Random functions ----
+
+/// What a random function is like.
+#[derive(Clone, Copy)]
+pub struct Shape {
+    pub instrs: usize,
+    /// How many of a hundred commands may have sites.
+    pub sites: usize,
+    /// How many of a hundred commands are labels, jumps and returns.
+    pub control: usize,
+    /// How many of a hundred of the rest are actions.
+    pub actions: usize,
+    /// How many of a hundred registers may hold another kind than the command asks for.
+    pub misfits: usize,
+    /// Each label name at one place.
+    pub one_place: bool,
+}
+
+struct Maker<'a> {
+    random: &'a mut Random,
+    shape: Shape,
+    next_site: u32,
+    labels: u16,
+}
+
+/// Label names are below this where they may repeat.
+const LABELS: usize = 5;
+
+/// The label at the start of a function that begins again at its end.
+const AGAIN: u16 = 99;
+
+impl Maker<'_> {
+    fn register(&mut self, kind: usize) -> u8 {
+        if !self.random.chance(self.shape.misfits) {
+            return (2 * kind + self.random.below(2)) as u8;
+        }
+        match self.random.below(3) {
+            0 => self.random.bits() as u8,
+            _ => self.random.below(12) as u8,
+        }
+    }
+
+    fn any_register(&mut self) -> u8 {
+        let kind = self.random.below(6);
+        self.register(kind)
+    }
+
+    fn site(&mut self) -> Option<u32> {
+        self.random.chance(60).then(|| {
+            self.next_site = self.next_site.wrapping_add(1);
+            self.next_site
+        })
+    }
+
+    /// A label to jump to; most often one that is there or comes next.
+    fn label_name(&mut self) -> u16 {
+        let labels = if self.shape.one_place { self.labels as usize + 2 } else { LABELS };
+        self.random.below(labels) as u16
+    }
+
+    fn cell(&mut self) -> Cell {
+        let choice = self.random.below(100);
+        if choice < self.shape.sites {
+            return self.site_command();
+        }
+        if choice < self.shape.sites + self.shape.control {
+            return self.control();
+        }
+        if self.random.chance(self.shape.actions) {
+            return self.action();
+        }
+        match self.random.below(9) {
+            0..=3 => self.load(),
+            _ => self.computed(),
+        }
+    }
+
+    fn site_command(&mut self) -> Cell {
+        if self.random.chance(50) {
+            let src = self.any_register();
+            let (activation_site, write_site) = (self.site(), self.site());
+            store_var(src, activation_site, write_site)
+        } else {
+            let dst = self.any_register();
+            let write_site = self.site();
+            make_record(dst, write_site)
+        }
+    }
+
+    fn control(&mut self) -> Cell {
+        match self.random.below(10) {
+            0..=3 if self.shape.one_place => {
+                self.labels += 1;
+                label(self.labels - 1)
+            }
+            0..=3 => label(self.label_name()),
+            4..=6 => jmp(self.label_name()),
+            7..=8 => {
+                let cond = self.register(4);
+                jmp_if(cond, self.label_name())
+            }
+            _ => {
+                let src = self.any_register();
+                ret(self.random.chance(50).then_some(src))
+            }
+        }
+    }
+
+    fn load(&mut self) -> Cell {
+        let register = self.any_register();
+        let kind = if self.random.chance(self.shape.misfits) {
+            self.random.below(6)
+        } else {
+            kind_of(register as usize)
+        };
+        leaves::load(register as usize, any_const(self.random, kind))
+    }
+
+    fn computed(&mut self) -> Cell {
+        let commands: Vec<u8> = computed_commands().collect();
+        let command = self.random.pick(&commands);
+        let (operand, result) = match table::layout(command).unwrap().command.name {
+            "CmpEq" | "CmpNe" => (self.random.below(6), 4),
+            name if name.starts_with("CmpI32") => (0, 4),
+            name if name.starts_with("CmpU32") => (1, 4),
+            name if name.ends_with("I32") => (0, 0),
+            name if name.ends_with("U32") => (1, 1),
+            name if name.ends_with("Fx") => (2, 2),
+            name if name.ends_with("F64") => (3, 3),
+            name if name.starts_with("Bool") => (4, 4),
+            _ => (5, 5),
+        };
+        let (dst, lhs) = (self.register(result), self.register(operand));
+        let rhs = self.register(operand);
+        computed(command, dst, lhs, rhs)
+    }
+
+    /// An action without sites.
+    fn action(&mut self) -> Cell {
+        let command = loop {
+            let command = COMMANDS[self.random.below(COMMANDS.len())].byte;
+            if is_action(command) {
+                break command;
+            }
+        };
+        let mut cell = [0; CELL];
+        cell[0] = command;
+        for &(form, place) in &table::layout(command).unwrap().places {
+            match form {
+                Form::Register => cell[place] = self.any_register(),
+                Form::OptionalRegister if self.random.chance(60) => {
+                    cell[place] = 1;
+                    cell[place + 1] = self.any_register();
+                }
+                Form::OptionalRegister | Form::Site => {}
+                Form::Bool => cell[place] = self.random.below(2) as u8,
+                Form::Quad => cell[place] = self.random.below(4) as u8,
+                Form::Number | Form::Word | Form::Double => {
+                    let bytes = self.random.bits().to_le_bytes();
+                    cell[place..place + form.width()].copy_from_slice(&bytes[..form.width()]);
+                }
+            }
+        }
+        cell
+    }
+}
+
+/// Neither computed nor control, and without sites.
+fn is_action(command: u8) -> bool {
+    let load = leaves::loaded(&cell(command, &[])).is_some();
+    let control = [byte::Label, byte::Jmp, byte::JmpIf, byte::Ret].contains(&command);
+    let sites = [byte::StoreVar, byte::MakeRecord].contains(&command);
+    !load && !control && !sites && leaves::operands(command).is_none()
+}
+
+/// A function whose sites are good.
+pub fn any_function(random: &mut Random, shape: Shape) -> (Vec<Cell>, Vec<Cell>) {
+    let next_site = random.bits() as u32;
+    let next_site = random.pick(&[0, 1, u32::MAX - 2, 0x7FFF_FFFE, 0xFFFE, next_site]);
+    let mut maker = Maker { random, shape, next_site, labels: 0 };
+    let mut instrs: Vec<Cell> = Vec::with_capacity(shape.instrs);
+    while instrs.len() < shape.instrs {
+        let repeat = maker.random.chance(6);
+        match instrs.last() {
+            Some(last) if repeat && last[0] == byte::Label => instrs.push(*last),
+            _ => instrs.push(maker.cell()),
+        }
+    }
+    let mut events = events_for(&instrs, |_| maker.random.range(1, 3));
+    for _ in 0..random.below(3) {
+        events.push(borrow(None));
+    }
+    for event in &mut events {
+        event[11..15].copy_from_slice(&(random.bits() as u32).to_le_bytes());
+    }
+    random.shuffle(&mut events);
+    (instrs, events)
+}
+
+/// Spoils the sites of a function, or not.
+fn spoil(random: &mut Random, instrs: &mut [Cell], events: &mut Vec<Cell>) {
+    for _ in 0..random.range(1, 2) {
+        let some_site = events
+            .iter()
+            .flat_map(|event| {
+                [
+                    cells::site(event, cells::EVENT_ACTIVATION_SITE),
+                    cells::site(event, cells::EVENT_WRITE_SITE),
+                ]
+            })
+            .flatten()
+            .next()
+            .unwrap_or(1);
+        let site = random.pick(&[Some(some_site), Some(some_site.wrapping_add(1)), None]);
+        if random.chance(30) {
+            let stores = instrs.iter_mut().filter(|cell| cell[0] == byte::StoreVar);
+            let mut stores: Vec<&mut Cell> = stores.collect();
+            if !stores.is_empty() {
+                let at = random.below(stores.len());
+                put_site(stores[at], random.pick(&[5, 10]), site);
+            }
+            continue;
+        }
+        if events.is_empty() {
+            events.push(event(random.below(2) as u8, site, None));
+            continue;
+        }
+        let at = random.below(events.len());
+        match random.below(6) {
+            0 => {
+                events.remove(at);
+            }
+            1 => {
+                let copy = events[at];
+                events.insert(random.below(events.len() + 1), copy);
+            }
+            2 => events[at][0] ^= 1,
+            3 => put_site(&mut events[at], cells::EVENT_ACTIVATION_SITE, site),
+            4 => put_site(&mut events[at], cells::EVENT_WRITE_SITE, site),
+            _ => events.push(write(site.unwrap_or(0))),
+        }
+    }
+}
+
+fn any_shape(random: &mut Random) -> Shape {
+    Shape {
+        instrs: random.below(24),
+        sites: random.pick(&[0, 5, 30, 60]),
+        control: random.pick(&[0, 10, 25, 40]),
+        actions: random.pick(&[5, 10, 50]),
+        misfits: 15,
+        one_place: random.chance(30),
+    }
+}
+
+/// Up to four functions, most with good sites.
+pub fn any_image(random: &mut Random) -> Vec<u8> {
+    let mut image = Vec::new();
+    for _ in 0..random.pick(&[0, 1, 1, 1, 1, 2, 3, 4]) {
+        let shape = any_shape(random);
+        let (mut instrs, mut events) = any_function(random, shape);
+        if random.chance(25) {
+            spoil(random, &mut instrs, &mut events);
+        }
+        let name = random.bits() as u16;
+        cells::push_function(&mut image, name, &instrs, &events);
+    }
+    image
+}
+
+/// A single function with each label name at one place, to be run.
+pub fn runnable(random: &mut Random) -> Vec<u8> {
+    let shape = Shape {
+        instrs: random.below(13),
+        sites: random.pick(&[0, 10]),
+        control: random.pick(&[20, 35, 50]),
+        actions: random.pick(&[10, 40, 70]),
+        misfits: random.pick(&[0, 0, 15]),
+        one_place: random.chance(90),
+    };
+    let (mut instrs, events) = any_function(random, shape);
+    // Half of them begin again at their end.
+    if random.chance(50) {
+        instrs.insert(0, label(AGAIN));
+        instrs.push(jmp(AGAIN));
+    }
+    one_function(&instrs, &events)
+}
+
+/// A good image with some of its bytes or cells changed.
+pub fn damaged(random: &mut Random) -> Vec<u8> {
+    let mut image = any_image(random);
+    for _ in 0..random.range(1, 3) {
+        damage(random, &mut image);
+    }
+    image
+}
+
+fn damage(random: &mut Random, image: &mut Vec<u8>) {
+    let count = image.len() / CELL;
+    if count == 0 {
+        image.push(random.bits() as u8);
+        return;
+    }
+    let at = random.below(image.len());
+    let cell = random.below(count) * CELL;
+    match random.below(10) {
+        0 => image[at] ^= 1 << random.below(8),
+        1 => image[at] = random.pick(&[0, 1, 2, 3, 4, 0x51, 0x52, 0x7F, 0x80, 0xF0, 0xFF]),
+        2 => image[at] = random.bits() as u8,
+        3 => {
+            image.drain(cell..cell + CELL);
+        }
+        4 => {
+            let copy = image[cell..cell + CELL].to_vec();
+            image.splice(cell..cell, copy);
+        }
+        5 => {
+            let other = random.below(count) * CELL;
+            for byte in 0..CELL {
+                image.swap(cell + byte, other + byte);
+            }
+        }
+        6 => image.truncate(at),
+        7 => {
+            let more = random.range(1, 17);
+            image.extend((0..more).map(|_| random.bits() as u8));
+        }
+        // A head's counts, where the cell is one.
+        8 => {
+            let place = cell + random.pick(&[3, 5]);
+            image[place] = image[place].wrapping_add(random.pick(&[1, 255]));
+        }
+        _ => {
+            let place = cell + random.pick(&[3, 4, 5, 6]);
+            image[place] = random.pick(&[0, 3, 4, 7, 8, 0xFF]);
+        }
+    }
+}
+
+// ---- Limits ----
+
+/// An image around one of the limits.
+pub fn limit(random: &mut Random) -> Vec<u8> {
+    let near = |random: &mut Random, limit: usize| limit - 2 + random.below(5);
+    match random.below(8) {
+        0 => {
+            let instrs = near(random, MAX_INSTRS);
+            filled_function(random, instrs, None)
+        }
+        1 => {
+            let instrs = random.range(0, 20);
+            let events = near(random, MAX_EVENTS);
+            filled_function(random, instrs, Some(events))
+        }
+        2 => {
+            let (instrs, events) = (near(random, MAX_INSTRS), near(random, MAX_EVENTS));
+            filled_function(random, instrs, Some(events))
+        }
+        // Around 65,536 bytes.
+        3 => {
+            let mut image = Vec::new();
+            while image.len() < MAX_IMAGE {
+                let left = MAX_IMAGE / CELL - image.len() / CELL - 1;
+                let instrs = random.range(0, MAX_INSTRS).min(left);
+                let part = filled_function(random, instrs, Some(0));
+                image.extend_from_slice(&part);
+            }
+            around_the_end(random, image)
+        }
+        4 => {
+            let functions = near(random, MAX_IMAGE / CELL);
+            let mut image = Vec::new();
+            for name in 0..functions {
+                cells::push_function(&mut image, name as u16, &[], &[]);
+            }
+            image
+        }
+        // Write sites, each with one event.
+        5 => {
+            let sites = near(random, MAX_EVENTS);
+            let instrs: Vec<Cell> = (0..sites as u32)
+                .map(|site| match site % 2 {
+                    0 => store_var(1, None, Some(site)),
+                    _ => make_record(1, Some(site)),
+                })
+                .collect();
+            spoiled_function(random, instrs)
+        }
+        // Activation sites.
+        6 => {
+            let sites = near(random, MAX_EVENTS) as u32;
+            let instrs = (0..sites).map(|site| store_var(1, Some(site), None)).collect();
+            spoiled_function(random, instrs)
+        }
+        // A head that claims more than there is, or just as much.
+        _ => {
+            let (instrs, events) = (random.below(30), random.below(30));
+            let mut image = filled_function(random, instrs, Some(events));
+            let place = random.pick(&[3, 5]);
+            image[place] = image[place].wrapping_add(random.pick(&[0, 1, 2, 255]));
+            around_the_end(random, image)
+        }
+    }
+}
+
+fn around_the_end(random: &mut Random, mut image: Vec<u8>) -> Vec<u8> {
+    match random.below(6) {
+        0 => {
+            image.pop();
+        }
+        1 => image.push(0),
+        2 => image.extend_from_slice(&cells::head(7, 0, 0)),
+        3 => image.truncate(image.len().saturating_sub(CELL)),
+        _ => {}
+    }
+    image
+}
+
+/// A function of this many instructions and, if given, this many events.
+fn filled_function(random: &mut Random, instrs: usize, events: Option<usize>) -> Vec<u8> {
+    let sites = if events == Some(0) { 0 } else { random.pick(&[0, 10]) };
+    let control = random.pick(&[0, 2, 10]);
+    let shape = Shape { instrs, sites, control, actions: 10, misfits: 15, one_place: false };
+    let (instrs, mut made) = any_function(random, shape);
+    if let Some(events) = events {
+        made.truncate(events);
+        made.resize(events, borrow(None));
+    }
+    one_function(&instrs, &made)
+}
+
+fn spoiled_function(random: &mut Random, mut instrs: Vec<Cell>) -> Vec<u8> {
+    let mut events = events_for(&instrs, |_| 1);
+    random.shuffle(&mut events);
+    if random.chance(40) {
+        spoil(random, &mut instrs, &mut events);
+    }
+    if random.chance(30) {
+        instrs.insert(random.below(instrs.len()), ret(None));
+    }
+    one_function(&instrs, &events)
+}

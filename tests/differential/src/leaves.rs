@@ -1,0 +1,193 @@
+//! Document 01's modules 1 and 2: what the computed commands give.
+
+use crate::cells::{self, Cell, CELL};
+use crate::legacy_lowering::byte;
+
+/// The one NaN that a folded result is written as.
+pub const NAN: u64 = 0x7FF8_0000_0000_0000;
+
+/// A value of one of the six constant kinds, an f64 as its bits.
+#[derive(Debug, Clone, Copy, PartialEq, Eq, Hash)]
+pub enum Const {
+    Quad(u8),
+    Bool(bool),
+    F64(u64),
+    I32(i32),
+    U32(u32),
+    Fx(i32),
+}
+
+use Const::{Bool, Quad, F64, I32, U32};
+
+#[derive(Debug, Clone, Copy, PartialEq, Eq)]
+pub enum Computed {
+    Value(Const),
+    NoResult,
+    /// An operand isn't of the command's kind.
+    Unfit,
+}
+
+/// The number of operands of a computed command that is no load.
+pub fn operands(command: u8) -> Option<usize> {
+    match command {
+        byte::BoolNot | byte::QNot => Some(1),
+        byte::AddF64 | byte::SubF64 | byte::MulF64 | byte::DivF64 => Some(2),
+        byte::AddFx | byte::SubFx | byte::MulFx | byte::DivFx => Some(2),
+        byte::AddI32 | byte::SubI32 | byte::MulI32 | byte::DivI32 | byte::ModI32 => Some(2),
+        byte::AddU32 | byte::SubU32 | byte::MulU32 | byte::DivU32 | byte::ModU32 => Some(2),
+        byte::BoolAnd | byte::BoolOr | byte::QAnd | byte::QOr | byte::QImpl => Some(2),
+        byte::CmpEq | byte::CmpNe => Some(2),
+        byte::CmpI32Le | byte::CmpI32Lt | byte::CmpU32Le | byte::CmpU32Lt => Some(2),
+        _ => None,
+    }
+}
+
+/// What a computed command gives; a command of one operand ignores the right.
+pub fn compute(command: u8, left: Const, right: Const) -> Computed {
+    let result = match (command, left, right) {
+        (byte::AddI32, I32(a), I32(b)) => Some(I32(wrapped(a as i64 + b as i64))),
+        (byte::SubI32, I32(a), I32(b)) => Some(I32(wrapped(a as i64 - b as i64))),
+        (byte::MulI32, I32(a), I32(b)) => Some(I32(wrapped(a as i64 * b as i64))),
+        (byte::DivI32, I32(a), I32(b)) => divide(a as i64, b as i64).and_then(int).map(I32),
+        // The remainder is missing where the quotient is.
+        (byte::ModI32, I32(a), I32(b)) => divide(a as i64, b as i64)
+            .and_then(int)
+            .map(|quotient| I32((a as i64 - quotient as i64 * b as i64) as i32)),
+
+        (byte::AddU32, U32(a), U32(b)) => unsigned(a as i128 + b as i128),
+        (byte::SubU32, U32(a), U32(b)) => unsigned(a as i128 - b as i128),
+        (byte::MulU32, U32(a), U32(b)) => unsigned(a as i128 * b as i128),
+        (byte::DivU32, U32(a), U32(b)) => {
+            divide(a as i64, b as i64).and_then(|quotient| unsigned(quotient as i128))
+        }
+        (byte::ModU32, U32(a), U32(b)) => divide(a as i64, b as i64)
+            .and_then(|quotient| unsigned(a as i128 - quotient as i128 * b as i128)),
+
+        (byte::AddFx, Const::Fx(a), Const::Fx(b)) => int(a as i64 + b as i64).map(Const::Fx),
+        (byte::SubFx, Const::Fx(a), Const::Fx(b)) => int(a as i64 - b as i64).map(Const::Fx),
+        (byte::MulFx, Const::Fx(a), Const::Fx(b)) => {
+            divide(a as i64 * b as i64, 1000).and_then(int).map(Const::Fx)
+        }
+        (byte::DivFx, Const::Fx(a), Const::Fx(b)) => {
+            divide(a as i64 * 1000, b as i64).and_then(int).map(Const::Fx)
+        }
+
+        (byte::AddF64, F64(a), F64(b)) => Some(float(a, b, |x, y| x + y)),
+        (byte::SubF64, F64(a), F64(b)) => Some(float(a, b, |x, y| x - y)),
+        (byte::MulF64, F64(a), F64(b)) => Some(float(a, b, |x, y| x * y)),
+        // Either zero: all bits but the sign are 0.
+        (byte::DivF64, F64(a), F64(b)) => (b << 1 != 0).then(|| float(a, b, |x, y| x / y)),
+
+        (byte::BoolNot, Bool(a), _) => Some(Bool(!a)),
+        (byte::BoolAnd, Bool(a), Bool(b)) => Some(Bool(a & b)),
+        (byte::BoolOr, Bool(a), Bool(b)) => Some(Bool(a | b)),
+
+        (byte::QNot, Quad(a), _) => Some(Quad(exchanged(a))),
+        (byte::QAnd, Quad(a), Quad(b)) => Some(Quad(greatest_lower(a, b))),
+        (byte::QOr, Quad(a), Quad(b)) => Some(Quad(least_upper(a, b))),
+        (byte::QImpl, Quad(a), Quad(b)) => Some(Quad(least_upper(exchanged(a), b))),
+
+        (byte::CmpEq, a, b) => Some(Bool(equal(a, b))),
+        (byte::CmpNe, a, b) => Some(Bool(!equal(a, b))),
+        (byte::CmpI32Le, I32(a), I32(b)) => Some(Bool(a <= b)),
+        (byte::CmpI32Lt, I32(a), I32(b)) => Some(Bool(a < b)),
+        (byte::CmpU32Le, U32(a), U32(b)) => Some(Bool(a <= b)),
+        (byte::CmpU32Lt, U32(a), U32(b)) => Some(Bool(a < b)),
+        _ => return Computed::Unfit,
+    };
+    result.map_or(Computed::NoResult, Computed::Value)
+}
+
+/// Modulo 2^32, as an i32.
+fn wrapped(number: i64) -> i32 {
+    let low = number.rem_euclid(1 << 32);
+    (if low < 1 << 31 { low } else { low - (1 << 32) }) as i32
+}
+
+fn int(number: i64) -> Option<i32> {
+    i32::try_from(number).ok()
+}
+
+fn unsigned(number: i128) -> Option<Const> {
+    u32::try_from(number).ok().map(U32)
+}
+
+/// Toward zero; nothing for divisor 0.
+fn divide(number: i64, divisor: i64) -> Option<i64> {
+    (divisor != 0).then(|| number / divisor)
+}
+
+fn float(a: u64, b: u64, operation: fn(f64, f64) -> f64) -> Const {
+    let result = operation(f64::from_bits(a), f64::from_bits(b));
+    F64(if result.is_nan() { NAN } else { result.to_bits() })
+}
+
+const QUAD_N: u8 = 0;
+const QUAD_F: u8 = 1;
+const QUAD_T: u8 = 2;
+const QUAD_S: u8 = 3;
+
+/// Belnap's approximation order.
+fn below(a: u8, b: u8) -> bool {
+    a == b || a == QUAD_N || b == QUAD_S
+}
+
+fn exchanged(a: u8) -> u8 {
+    match a {
+        QUAD_F => QUAD_T,
+        QUAD_T => QUAD_F,
+        other => other,
+    }
+}
+
+fn greatest_lower(a: u8, b: u8) -> u8 {
+    let lower = |c: u8| below(c, a) && below(c, b);
+    let greatest = |c: &u8| lower(*c) && (0..4).all(|d| !lower(d) || below(d, *c));
+    (0..4).find(greatest).unwrap()
+}
+
+fn least_upper(a: u8, b: u8) -> u8 {
+    let upper = |c: u8| below(a, c) && below(b, c);
+    let least = |c: &u8| upper(*c) && (0..4).all(|d| !upper(d) || below(*c, d));
+    (0..4).find(least).unwrap()
+}
+
+fn equal(a: Const, b: Const) -> bool {
+    match (a, b) {
+        (F64(a), F64(b)) => f64::from_bits(a) == f64::from_bits(b),
+        (a, b) => a == b,
+    }
+}
+
+/// The register and the value of a load of the six kinds.
+pub fn loaded(cell: &Cell) -> Option<(usize, Const)> {
+    let value = match cell[0] {
+        byte::LoadQ => Quad(cell[3]),
+        byte::LoadBool => Bool(cell[3] == 1),
+        byte::LoadI32 => I32(cells::word(cell, 3) as i32),
+        byte::LoadU32 => U32(cells::word(cell, 3)),
+        byte::LoadF64 => F64(cells::double(cell, 3)),
+        byte::LoadFx => Const::Fx(cells::word(cell, 3) as i32),
+        _ => return None,
+    };
+    Some((cells::half(cell, 1) as usize, value))
+}
+
+/// The load of a value.
+pub fn load(dst: usize, value: Const) -> Cell {
+    let mut cell = [0; CELL];
+    cell[1..3].copy_from_slice(&(dst as u16).to_le_bytes());
+    let mut put = |command: u8, bytes: &[u8]| {
+        cell[0] = command;
+        cell[3..3 + bytes.len()].copy_from_slice(bytes);
+    };
+    match value {
+        Quad(q) => put(byte::LoadQ, &[q]),
+        Bool(b) => put(byte::LoadBool, &[b as u8]),
+        I32(i) => put(byte::LoadI32, &i.to_le_bytes()),
+        U32(u) => put(byte::LoadU32, &u.to_le_bytes()),
+        F64(bits) => put(byte::LoadF64, &bits.to_le_bytes()),
+        Const::Fx(raw) => put(byte::LoadFx, &raw.to_le_bytes()),
+    }
+    cell
+}

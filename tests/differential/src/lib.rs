@@ -1,0 +1,24 @@
+//! The original sm-ir passes, a model of document 01's answers, and what is
+//! needed to compare them with each other and with the proved library.
+
+pub mod answers;
+pub mod cells;
+pub mod codec;
+pub mod compare;
+pub mod driver;
+pub mod frontend;
+pub mod generate;
+pub mod leaves;
+pub mod legacy_lowering;
+pub mod library;
+pub mod model;
+pub mod original;
+pub mod program;
+pub mod random;
+pub mod runs;
+pub mod sample;
+pub mod shrink;
+pub mod table;
+
+// `passes`: mod.rs, cleanup.rs and crystalfold.rs, unchanged, from their own folder.
+include!(concat!(env!("OUT_DIR"), "/passes.rs"));

@@ -1,0 +1,122 @@
+//! The proved static library. Everything that depends on its C interface is here.
+//! Its header is `include/matchdesk.h`.
+
+#[cfg(feature = "library")]
+pub use linked::Library;
+
+#[cfg(feature = "library")]
+mod linked {
+    use crate::answers::{Checked, Operations, Refusal, Rewritten, Success};
+
+    /// Image and length, and the references to position and detail.
+    type Check = unsafe extern "C" fn(*const u8, usize, *mut usize, *mut usize) -> usize;
+    /// Image, output, their lengths, and the references to the two numbers.
+    type Rewrite =
+        unsafe extern "C" fn(*const u8, usize, *mut u8, usize, *mut usize, *mut usize) -> usize;
+
+    extern "C" {
+        fn matchdesk_image_check(
+            image: *const u8,
+            image_length: usize,
+            position: *mut usize,
+            detail: *mut usize,
+        ) -> usize;
+        fn matchdesk_site_check(
+            image: *const u8,
+            image_length: usize,
+            position: *mut usize,
+            detail: *mut usize,
+        ) -> usize;
+        fn matchdesk_cleanup(
+            image: *const u8,
+            image_length: usize,
+            out: *mut u8,
+            out_length: usize,
+            first: *mut usize,
+            second: *mut usize,
+        ) -> usize;
+        fn matchdesk_crystalfold(
+            image: *const u8,
+            image_length: usize,
+            out: *mut u8,
+            out_length: usize,
+            first: *mut usize,
+            second: *mut usize,
+        ) -> usize;
+        fn matchdesk_rewrite(
+            image: *const u8,
+            image_length: usize,
+            out: *mut u8,
+            out_length: usize,
+            first: *mut usize,
+            second: *mut usize,
+        ) -> usize;
+    }
+
+    /// What stands behind the references before a call: no answer has it.
+    const UNSET: usize = usize::MAX;
+
+    fn refusal(number: usize, position: usize, detail: usize) -> Refusal {
+        Refusal {
+            number: number.try_into().unwrap(),
+            position: position.try_into().unwrap(),
+            detail: detail.try_into().unwrap(),
+        }
+    }
+
+    fn check(operation: Check, image: &[u8]) -> Checked {
+        let (mut position, mut detail) = (UNSET, UNSET);
+        let number =
+            unsafe { operation(image.as_ptr(), image.len(), &mut position, &mut detail) };
+        if number != 0 {
+            return Err(refusal(number, position, detail));
+        }
+        assert_eq!((position, detail), (0, 0), "numbers of a check that refuses nothing");
+        Ok(())
+    }
+
+    fn answer(operation: Rewrite, image: &[u8], out: &mut [u8]) -> Rewritten {
+        let (mut first, mut second) = (UNSET, UNSET);
+        let number = unsafe {
+            operation(
+                image.as_ptr(),
+                image.len(),
+                out.as_mut_ptr(),
+                out.len(),
+                &mut first,
+                &mut second,
+            )
+        };
+        if number != 0 {
+            return Err(refusal(number, first, second));
+        }
+        Ok(Success {
+            length: first,
+            num_rewrites: second.try_into().unwrap(),
+            changed: second != 0,
+        })
+    }
+
+    pub struct Library;
+
+    impl Operations for Library {
+        fn name(&self) -> &'static str {
+            "library"
+        }
+        fn image_check(&self, image: &[u8]) -> Checked {
+            check(matchdesk_image_check, image)
+        }
+        fn site_check(&self, image: &[u8]) -> Checked {
+            check(matchdesk_site_check, image)
+        }
+        fn cleanup(&self, image: &[u8], out: &mut [u8]) -> Rewritten {
+            answer(matchdesk_cleanup, image, out)
+        }
+        fn crystalfold(&self, image: &[u8], out: &mut [u8]) -> Rewritten {
+            answer(matchdesk_crystalfold, image, out)
+        }
+        fn rewrite(&self, image: &[u8], out: &mut [u8]) -> Rewritten {
+            answer(matchdesk_rewrite, image, out)
+        }
+    }
+}

@@ -1,0 +1,165 @@
+//! Runs the comparison; or makes or replays a sample of the original's answers; or
+//! compares what the printing program writes.
+
+use differential::answers::{Operation, Operations};
+use differential::compare::{self, hexadecimal};
+use differential::driver::{compare_all, Count, Found, Outcome};
+use differential::model::Model;
+use differential::random::{mix, Random};
+use differential::runs::{self, Outside};
+use differential::{cells, generate, program, sample, table};
+use std::process::ExitCode;
+use std::time::{SystemTime, UNIX_EPOCH};
+
+struct Options {
+    seed: u64,
+    seconds: u64,
+    threads: usize,
+    sample: Option<String>,
+    replay: Option<String>,
+    program: Option<String>,
+}
+
+const USAGE: &str = "\
+usage: [--seed N] [--seconds N] [--threads N]
+       [--seed N] --sample FILE
+       --replay FILE
+       [--seed N] [--seconds N] --program FILE";
+
+fn options() -> Result<Options, String> {
+    let now = SystemTime::now().duration_since(UNIX_EPOCH).unwrap_or_default();
+    let threads = std::thread::available_parallelism().map_or(1, |count| count.get());
+    let seed = mix(now.as_nanos() as u64);
+    let mut options =
+        Options { seed, seconds: 60, threads, sample: None, replay: None, program: None };
+    let mut words = std::env::args().skip(1);
+    while let Some(word) = words.next() {
+        let value = words.next().ok_or_else(|| format!("{word} needs a value"))?;
+        let number = || value.parse::<u64>().map_err(|_| format!("{word}: {value} is no number"));
+        match word.as_str() {
+            "--seed" => options.seed = number()?,
+            "--seconds" => options.seconds = number()?,
+            "--threads" => options.threads = number()?.max(1) as usize,
+            "--sample" => options.sample = Some(value),
+            "--replay" => options.replay = Some(value),
+            "--program" => options.program = Some(value),
+            _ => return Err(format!("{word} isn't known")),
+        }
+    }
+    Ok(options)
+}
+
+fn main() -> ExitCode {
+    let options = match options() {
+        Ok(options) => options,
+        Err(error) => {
+            eprintln!("{error}\n{USAGE}");
+            return ExitCode::from(2);
+        }
+    };
+    let done = match (&options.sample, &options.replay, &options.program) {
+        (Some(file), _, _) => sample::write(file, options.seed),
+        (_, Some(file), _) => replay(file),
+        (_, _, Some(file)) => {
+            println!("seed {}", options.seed);
+            program::compare(file, options.seed, options.seconds)
+        }
+        _ => compare(&options),
+    };
+    match done {
+        Ok(text) => {
+            println!("{text}");
+            ExitCode::SUCCESS
+        }
+        Err(error) => {
+            println!("{error}");
+            ExitCode::FAILURE
+        }
+    }
+}
+
+fn replay(file: &str) -> Result<String, String> {
+    let bytes = std::fs::read(file).map_err(|error| format!("{file}: {error}"))?;
+    let mut lines = Vec::new();
+    for subject in subjects() {
+        let cases = sample::replay(&bytes, subject)?;
+        lines.push(format!("{}: {cases} cases as the original answered", subject.name()));
+    }
+    Ok(lines.join("\n"))
+}
+
+/// Without the premise on labels the claims fail: the sent function loops, the returned one ends.
+fn premise_is_needed() -> Result<(), String> {
+    let sent = [generate::label(1), generate::jmp(1), generate::label(1)];
+    let image = generate::one_function(&sent, &[]);
+    let expected = compare::expected(&image).map_err(|difference| difference.what)?;
+    let written = expected.written(Operation::Rewrite).ok_or("refused")?;
+    let returned = cells::functions(written).next().ok_or("no function")?;
+    if returned.instrs != [generate::label(1), generate::label(1)] {
+        return Err("Label 1, Jmp 1, Label 1 isn't Label 1, Label 1".into());
+    }
+    if runs::labels_at_one_place(&sent) {
+        return Err("the premise holds of Label 1, Jmp 1, Label 1".into());
+    }
+    let registers = runs::any_registers(&mut Random::new(1), 0);
+    let outside = Outside { seed: 1, stops: 0, misfits: 0 };
+    match runs::claims(&sent, returned.instrs, &registers, outside, 40) {
+        Ok(_) => Err("the claims hold of Label 1, Jmp 1, Label 1".into()),
+        Err(_) => Ok(()),
+    }
+}
+
+/// The model, and the proved library where it is linked.
+fn subjects() -> Vec<&'static dyn Operations> {
+    #[cfg(feature = "library")]
+    return vec![&differential::library::Library, &Model];
+    #[cfg(not(feature = "library"))]
+    return vec![&Model];
+}
+
+fn compare(options: &Options) -> Result<String, String> {
+    println!("seed {}", options.seed);
+    let commands = table::check_against_text()
+        .map_err(|error| format!("DIFFERENCE in the table of commands: {error}"))?;
+    println!("table: {commands} commands as in the original's text");
+    premise_is_needed().map_err(|error| format!("DIFFERENCE in the running rule: {error}"))?;
+    println!("runs: Label 1, Jmp 1, Label 1 differs from what is returned, as it must");
+
+    let subjects = subjects();
+    let outcome = compare_all(&subjects, options.seed, options.seconds, options.threads);
+    report(&outcome);
+    let Some(found) = outcome.found else {
+        let names: Vec<&str> = subjects.iter().map(|subject| subject.name()).collect();
+        return Ok(format!("no difference between the original and: {}", names.join(", ")));
+    };
+    let Found { group, subject, image, more, difference } = found;
+    println!("DIFFERENCE: {}; group {group}, seed {}", difference.what, options.seed);
+    println!("image, {} bytes", image.len());
+    println!("{}", hexadecimal(&image));
+    println!("lent output longer by {more}");
+    println!("original: {}", difference.expected);
+    Err(format!("{subject}: {}", difference.got))
+}
+
+fn report(outcome: &Outcome) {
+    let mut total = Count { name: "all", ..Count::default() };
+    println!("{:20} {:>12} {:>12} {:>12}", "group", "images", "accepted", "comparisons");
+    let line = |count: &Count| {
+        let Count { name, images, accepted, comparisons } = count;
+        println!("{name:20} {images:>12} {accepted:>12} {comparisons:>12}");
+    };
+    for count in &outcome.counts {
+        total.images += count.images;
+        total.accepted += count.accepted;
+        total.comparisons += count.comparisons;
+        line(count);
+    }
+    line(&total);
+    let refusals = outcome.refusals.iter().enumerate().filter(|(_, count)| **count > 0);
+    let refusals: Vec<String> =
+        refusals.map(|(number, count)| format!("{number}: {count}")).collect();
+    println!("refusals by number  {}", refusals.join(", "));
+    println!("pairs of runs {}, entries of their records {}", outcome.runs, outcome.entries);
+    let seconds = outcome.time.as_secs_f64();
+    println!("{seconds:.1} s, {:.0} images a second", total.images as f64 / seconds);
+}

@@ -1,0 +1,188 @@
+//! The original's answers on images, and its error texts as refusals.
+
+use crate::answers::{Operation, Refusal, Success};
+use crate::cells;
+use crate::codec;
+use crate::leaves;
+use crate::legacy_lowering::{byte, IrFunction, IrInstr, OwnershipPathEventKind};
+use crate::passes::cleanup::StructuralCleanupPass;
+use crate::passes::crystalfold::CrystalFoldPass;
+use crate::passes::{
+    run_default_opt_passes, validate_activation_sites, validate_write_sites, IrModule, OptError,
+    OptPass, OptReport,
+};
+use std::collections::HashMap;
+
+/// The original's error texts, or how they begin, and their numbers; `{}` stands
+/// for the site.
+const TEXTS: [(u8, &str); 10] = [
+    (11, "ActivationSiteId({}) annotated on more than one StoreVar"),
+    (12, "Write event must never carry an activation site, found ActivationSiteId({})"),
+    (13, "ActivationSiteId({}) claimed by more than one Borrow event"),
+    (14, "activation-site bijection broken ("),
+    (21, "WriteSiteId({}) annotated on more than one write-capable instruction"),
+    (22, "Borrow event must never carry a write site, found WriteSiteId({})"),
+    (23, "Write event has no WriteSiteId"),
+    (24, "WriteSiteId({}) is annotated on an instruction but claimed by no Write event"),
+    (25, "WriteSiteId({}) is a StoreVar site but is claimed by "),
+    (26, "WriteSiteId({}) is claimed by a Write event but is not annotated on any instruction"),
+];
+
+/// The refusal that an error text stands for; the text itself if it has no number.
+fn refusal(error: OptError) -> Result<Refusal, String> {
+    find_refusal(&error.0).ok_or(error.0)
+}
+
+fn find_refusal(text: &str) -> Option<Refusal> {
+    let (name, text) = text.strip_prefix("function `")?.split_once("`: ")?;
+    let position = name.split_once(':')?.0.parse().ok()?;
+    TEXTS.iter().find_map(|(number, pattern)| {
+        let detail = match pattern.split_once("{}") {
+            None => text.starts_with(pattern).then_some(0)?,
+            Some((before, after)) => {
+                let rest = text.strip_prefix(before)?;
+                let digits = rest.find(|c: char| !c.is_ascii_digit()).unwrap_or(rest.len());
+                let (site, rest) = rest.split_at(digits);
+                rest.starts_with(after).then_some(site.parse().ok()?)?
+            }
+        };
+        Some(Refusal { number: *number, position, detail })
+    })
+}
+
+/// Runs one of the original's passes, or both.
+pub fn run(operation: Operation, functions: &mut Vec<IrFunction>) -> Result<OptReport, OptError> {
+    let one = |pass: &dyn OptPass, functions: &mut Vec<IrFunction>| {
+        let mut module = IrModule { functions: std::mem::take(functions) };
+        let report = pass.run(&mut module)?;
+        *functions = module.functions;
+        Ok(report)
+    };
+    match operation {
+        Operation::Rewrite => run_default_opt_passes(functions),
+        Operation::Cleanup => one(&StructuralCleanupPass, functions),
+        Operation::CrystalFold => one(&CrystalFoldPass, functions),
+    }
+}
+
+/// What the original answers on an image that has passed the image check.
+pub struct Answers {
+    pub sites: Result<(), Refusal>,
+    /// What each operation writes, in the order of `OPERATIONS`.
+    pub written: [Result<(Vec<u8>, Success), Refusal>; 3],
+    /// The refusals that the original could give, for any order of its hash maps.
+    pub possible: Vec<Refusal>,
+}
+
+/// The original's answers, or what it did that no refusal stands for.
+pub fn answers(image: &[u8]) -> Result<Answers, String> {
+    let functions = codec::decode(image);
+    if codec::encode(&functions) != image {
+        return Err("the image doesn't come back from the original's values".into());
+    }
+    let validate = |function| {
+        validate_activation_sites(function)?;
+        validate_write_sites(function)
+    };
+    let sites = match functions.iter().try_for_each(validate) {
+        Ok(()) => Ok(()),
+        Err(error) => Err(refusal(error)?),
+    };
+    let possible = match sites {
+        Ok(()) => Vec::new(),
+        Err(Refusal { position, .. }) => possible(position, &functions[position as usize]),
+    };
+
+    let cleaned = written(Operation::Cleanup, image, functions.clone())?;
+    let mut folded = written(Operation::CrystalFold, image, functions.clone())?;
+    let mut both = written(Operation::Rewrite, image, functions)?;
+    if let Ok((bytes, _)) = &mut folded {
+        write_one_nan(image, bytes);
+    }
+    if let (Ok((cleaned, _)), Ok((bytes, _))) = (&cleaned, &mut both) {
+        write_one_nan(cleaned, bytes);
+    }
+    Ok(Answers { sites, written: [both, cleaned, folded], possible })
+}
+
+type Written = Result<(Vec<u8>, Success), Refusal>;
+
+fn written(
+    operation: Operation,
+    image: &[u8],
+    mut functions: Vec<IrFunction>,
+) -> Result<Written, String> {
+    match run(operation, &mut functions) {
+        Ok(OptReport { changed, num_rewrites }) => {
+            let bytes = codec::encode(&functions);
+            let length = bytes.len();
+            if length > image.len() {
+                return Err(format!("{operation:?} makes the image longer"));
+            }
+            Ok(Ok((bytes, Success { length, num_rewrites, changed })))
+        }
+        Err(error) => {
+            if !functions.is_empty() {
+                return Err(format!("{operation:?} leaves functions in the list on an error"));
+            }
+            Ok(Err(refusal(error)?))
+        }
+    }
+}
+
+/// Writes the NaN of a folded f64 result as document 01 does. CrystalFold keeps
+/// every cell's place, so a LoadF64 was folded if another command stood there.
+fn write_one_nan(before: &[u8], after: &mut [u8]) {
+    assert_eq!(before.len(), after.len());
+    for (before, after) in cells::cells(before).iter().zip(after.as_chunks_mut().0) {
+        let folded = after[0] == byte::LoadF64 && before[0] != byte::LoadF64;
+        if folded && f64::from_bits(cells::double(after, 3)).is_nan() {
+            after[3..11].copy_from_slice(&leaves::NAN.to_le_bytes());
+        }
+    }
+}
+
+/// Every refusal that the validators could give for a function they refuse.
+/// They walk hash maps for 24, 25 and 26 only; before those there is one answer.
+fn possible(position: u32, function: &IrFunction) -> Vec<Refusal> {
+    let one = |error| match refusal(error) {
+        Ok(refusal) => vec![refusal],
+        Err(_) => Vec::new(),
+    };
+    if let Err(error) = validate_activation_sites(function) {
+        return one(error);
+    }
+    let mut commands = HashMap::new();
+    for instr in &function.instrs {
+        let (site, store_var) = match instr {
+            IrInstr::StoreVar { write_site: Some(site), .. } => (*site, true),
+            IrInstr::MakeRecord { write_site: Some(site), .. } => (*site, false),
+            _ => continue,
+        };
+        if commands.insert(site, store_var).is_some() {
+            return validate_write_sites(function).map_or_else(one, |()| Vec::new());
+        }
+    }
+    let mut claims: HashMap<_, usize> = HashMap::new();
+    for event in &function.ownership_events {
+        match (event.kind, event.write_site) {
+            (OwnershipPathEventKind::Write, Some(site)) => *claims.entry(site).or_default() += 1,
+            (OwnershipPathEventKind::Borrow, None) => {}
+            _ => return validate_write_sites(function).map_or_else(one, |()| Vec::new()),
+        }
+    }
+    let refusal = |number, detail| Refusal { number, position, detail };
+    let by_command: Vec<Refusal> = commands
+        .iter()
+        .filter_map(|(site, store_var)| match claims.get(site).copied().unwrap_or(0) {
+            0 => Some(refusal(24, site.0)),
+            1 => None,
+            _ => store_var.then(|| refusal(25, site.0)),
+        })
+        .collect();
+    if !by_command.is_empty() {
+        return by_command;
+    }
+    let unclaimed = claims.keys().filter(|site| !commands.contains_key(site));
+    unclaimed.map(|site| refusal(26, site.0)).collect()
+}

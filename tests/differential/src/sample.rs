@@ -1,0 +1,353 @@
+//! A seeded sample of the original's answers as bytes, and its replay.
+//!
+//! Numbers are little-endian. The file is a line of text that says how it was made, up
+//! to its line feed, then the number of cases (2 bytes) and the cases:
+//!
+//! - operation (1): 0 the whole rewrite, 1 cleanup, 2 CrystalFold;
+//! - the image's length (2) and the image;
+//! - 0 (1), the output's length (2), rewrites (4), changed (1) and the output; or
+//!   1 (1), the refusal's number (1), position (2) and detail (4).
+
+use crate::answers::{Operation, Operations, Refusal, Success, OPERATIONS};
+use crate::cells::{self, Cell};
+use crate::generate::{
+    any_function, borrow, computed, computed_commands, event, jmp, jmp_if, label, load_i32,
+    make_record, one_function, ret, store_var, write as write_event, Shape,
+};
+use crate::leaves::{self, Const};
+use crate::legacy_lowering::byte;
+use crate::random::Random;
+use crate::runs::any_const;
+use crate::{model, original, table};
+use std::collections::BTreeSet;
+
+/// How many images there are at least.
+const IMAGES: usize = 400;
+
+/// The numbers that the original's errors have.
+const NUMBERS: [u8; 10] = [11, 12, 13, 14, 21, 22, 23, 24, 25, 26];
+
+struct Sample {
+    bytes: Vec<u8>,
+    images: usize,
+    cases: u16,
+    refusals: BTreeSet<u8>,
+    folds: BTreeSet<u8>,
+}
+
+/// Writes a sample to a file and says what is in it.
+pub fn write(file: &str, seed: u64) -> Result<String, String> {
+    let (bytes, text) = make(seed)?;
+    std::fs::write(file, bytes).map_err(|error| format!("{file}: {error}"))?;
+    Ok(text)
+}
+
+/// The bytes of a sample, and what is in it.
+pub fn make(seed: u64) -> Result<(Vec<u8>, String), String> {
+    let mut random = Random::new(seed);
+    let mut sample = Sample {
+        bytes: Vec::new(),
+        images: 0,
+        cases: 0,
+        refusals: BTreeSet::new(),
+        folds: BTreeSet::new(),
+    };
+    for (name, image, wanted) in sweeps() {
+        let count = sample.add(&image, &OPERATIONS)?;
+        if count != Some(wanted) {
+            return Err(format!("{name}: {count:?} rewrites instead of {wanted}"));
+        }
+    }
+    for image in rows().into_iter().chain(folds(&mut random)) {
+        sample.add(&image, &[Operation::Rewrite])?;
+    }
+    for image in refusals(&mut random) {
+        sample.add(&image, &[Operation::Rewrite])?;
+    }
+    while sample.images < IMAGES {
+        let image = small_image(&mut random);
+        let operation = random.pick(&OPERATIONS);
+        sample.add(&image, &[Operation::Rewrite, operation])?;
+    }
+
+    let missing: Vec<u8> =
+        NUMBERS.into_iter().filter(|number| !sample.refusals.contains(number)).collect();
+    if !missing.is_empty() {
+        return Err(format!("refusals missing in the sample: {missing:?}"));
+    }
+    let missing: Vec<&str> = computed_commands()
+        .filter(|command| !sample.folds.contains(command))
+        .map(|command| table::layout(command).unwrap().command.name)
+        .collect();
+    if !missing.is_empty() {
+        return Err(format!("folds missing in the sample: {missing:?}"));
+    }
+    let line = format!(
+        "Answers of the original sm-ir passes: tests/differential --seed {seed} --sample FILE\n"
+    );
+    let bytes = [line.as_bytes(), &sample.cases.to_le_bytes(), &sample.bytes].concat();
+    let text = format!(
+        "seed {seed}: {} images, {} cases, {} bytes; refusals {:?}; {} commands folded; {} sweeps",
+        sample.images,
+        sample.cases,
+        bytes.len(),
+        sample.refusals,
+        sample.folds.len(),
+        sweeps().len(),
+    );
+    Ok((bytes, text))
+}
+
+impl Sample {
+    /// Adds an image with the original's answers to some operations; gives the count of the
+    /// first. An image that the image check refuses, or to which the original may give
+    /// several refusals, stays out.
+    fn add(&mut self, image: &[u8], operations: &[Operation]) -> Result<Option<u32>, String> {
+        if model::image_check(image).is_err() {
+            return Ok(None);
+        }
+        let answers = original::answers(image)?;
+        if answers.possible.len() > 1 {
+            return Ok(None);
+        }
+        let mut first = None;
+        for (index, operation) in OPERATIONS.iter().enumerate() {
+            if !operations.contains(operation) {
+                continue;
+            }
+            let Sample { bytes, .. } = self;
+            bytes.push(index as u8);
+            bytes.extend_from_slice(&(image.len() as u16).to_le_bytes());
+            bytes.extend_from_slice(image);
+            match &answers.written[index] {
+                Ok((written, Success { length, num_rewrites, changed })) => {
+                    bytes.push(0);
+                    bytes.extend_from_slice(&(*length as u16).to_le_bytes());
+                    bytes.extend_from_slice(&num_rewrites.to_le_bytes());
+                    bytes.push(*changed as u8);
+                    bytes.extend_from_slice(written);
+                    first = first.or(Some(*num_rewrites));
+                }
+                Err(Refusal { number, position, detail }) => {
+                    bytes.extend_from_slice(&[1, *number]);
+                    bytes.extend_from_slice(&(*position as u16).to_le_bytes());
+                    bytes.extend_from_slice(&detail.to_le_bytes());
+                    self.refusals.insert(*number);
+                }
+            }
+            self.cases += 1;
+        }
+        // What the original folded after its cleanup.
+        if let [Ok((both, _)), Ok((cleaned, _)), _] = &answers.written {
+            for (before, after) in cells::cells(cleaned).iter().zip(cells::cells(both)) {
+                if before != after {
+                    self.folds.insert(before[0]);
+                }
+            }
+        }
+        self.images += 1;
+        Ok(first)
+    }
+}
+
+/// Each sweep of cleanup alone, and the number of cells that go.
+fn sweeps() -> Vec<(&'static str, Vec<u8>, u32)> {
+    let load = |kind: Const| leaves::load(1, kind);
+    let sites = [
+        ret(None),
+        store_var(1, Some(5), Some(6)),
+        make_record(2, Some(7)),
+        label(1),
+        store_var(1, Some(8), None),
+    ];
+    let events = [borrow(Some(8)), write_event(7), borrow(Some(5)), write_event(6), write_event(7)];
+    let kinds = [
+        Const::Quad(2),
+        Const::Bool(true),
+        Const::F64(0x3FF8_0000_0000_0000),
+        Const::I32(5),
+        Const::Fx(1500),
+    ];
+    let mut sweeps = vec![
+        ("repeated labels", one_function(&[label(1), label(1), label(1), label(2)], &[]), 2),
+        ("after Ret", one_function(&[ret(None), load_i32(1, 5), jmp(1), label(1)], &[]), 2),
+        ("after Jmp", one_function(&[label(1), jmp(2), ret(None), label(3)], &[]), 1),
+        ("with its events", one_function(&sites, &events), 2),
+        ("Jmp to the next label", one_function(&[jmp(1), label(1)], &[]), 1),
+        ("Jmp at the end", one_function(&[label(1), jmp(1)], &[]), 0),
+        ("JmpIf to the next label", one_function(&[jmp_if(1, 1), label(1)], &[]), 0),
+        ("Label 1, Jmp 1, Label 1", one_function(&[label(1), jmp(1), label(1)], &[]), 1),
+        ("five loads", one_function(&kinds.map(load), &[]), 4),
+        ("LoadU32 twice", one_function(&[load(Const::U32(1)), load(Const::U32(2))], &[]), 0),
+        ("LoadU32, LoadI32", one_function(&[load(Const::U32(1)), load_i32(1, 2)], &[]), 0),
+        ("LoadI32, LoadU32", one_function(&[load_i32(1, 2), load(Const::U32(1))], &[]), 0),
+        ("two registers", one_function(&[load_i32(1, 2), load_i32(2, 2)], &[]), 0),
+    ];
+    for first in kinds {
+        for second in kinds {
+            sweeps.push(("two loads", one_function(&[load(first), load(second)], &[]), 1));
+        }
+    }
+    sweeps
+}
+
+/// A command on two known values.
+fn known(command: u8, left: Const, right: Const) -> Vec<u8> {
+    let instrs = [leaves::load(1, left), leaves::load(2, right), computed(command, 3, 1, 2)];
+    one_function(&instrs, &[])
+}
+
+/// Document 01's rows that are no row of `sweeps`, and its printed example.
+fn rows() -> Vec<Vec<u8>> {
+    use Const::{Fx, Quad, F64, I32, U32};
+    vec![
+        known(byte::AddI32, I32(i32::MAX), I32(1)),
+        known(byte::DivI32, I32(-7), I32(2)),
+        known(byte::ModI32, I32(-7), I32(2)),
+        known(byte::DivI32, I32(i32::MIN), I32(-1)),
+        known(byte::ModI32, I32(i32::MIN), I32(-1)),
+        known(byte::SubU32, U32(0), U32(1)),
+        known(byte::MulFx, Fx(1500), Fx(1500)),
+        known(byte::MulFx, Fx(-1), Fx(1)),
+        known(byte::MulFx, Fx(i32::MAX), Fx(1000)),
+        known(byte::MulFx, Fx(i32::MAX), Fx(1001)),
+        known(byte::QAnd, Quad(2), Quad(1)),
+        known(byte::QOr, Quad(2), Quad(1)),
+        known(byte::QImpl, Quad(1), Quad(0)),
+        known(byte::CmpEq, I32(0), U32(0)),
+        known(byte::CmpEq, F64(0), F64(1 << 63)),
+        one_function(&[load_i32(1, 5), computed(byte::AddI32, 2, 1, 1), ret(Some(2))], &[]),
+        Vec::new(),
+        one_function(&[], &[]),
+    ]
+}
+
+/// Each computed command on known values of its kinds, on a wrong kind and on an unknown one.
+fn folds(random: &mut Random) -> Vec<Vec<u8>> {
+    let mut images = Vec::new();
+    for command in computed_commands() {
+        let kind = (0..6)
+            .find(|&kind| {
+                let value = any_const(random, kind);
+                leaves::compute(command, value, value) != leaves::Computed::Unfit
+            })
+            .unwrap();
+        for _ in 0..3 {
+            let (left, right) = (any_const(random, kind), any_const(random, kind));
+            images.push(known(command, left, right));
+        }
+        // Operands for which each command has a result.
+        let one = match kind {
+            0 => Const::I32(1),
+            1 => Const::U32(1),
+            2 => Const::Fx(1),
+            3 => Const::F64(0x3FF0_0000_0000_0000),
+            kind => any_const(random, kind),
+        };
+        images.push(known(command, one, one));
+        let other = any_const(random, (kind + 1) % 6);
+        images.push(known(command, one, other));
+        images.push(one_function(&[leaves::load(1, one), computed(command, 3, 1, 2)], &[]));
+    }
+    images
+}
+
+/// Each refusal, in a first and in a later function.
+fn refusals(random: &mut Random) -> Vec<Vec<u8>> {
+    let mut images = Vec::new();
+    for _ in 0..2 {
+        let a = random.bits() as u32;
+        let b = a.wrapping_add(1);
+        let store = |site| store_var(1, Some(site), None);
+        let stored = |site| store_var(1, None, Some(site));
+        let made = |site| make_record(1, Some(site));
+        let plain_write = event(cells::EVENT_WRITE, None, None);
+        let write_with = event(cells::EVENT_WRITE, Some(a), Some(b));
+        let borrow_with = event(cells::EVENT_BORROW, None, Some(a));
+        let functions: Vec<(Vec<Cell>, Vec<Cell>)> = vec![
+            (vec![store(a), store(b), store(a)], vec![borrow(Some(a))]),
+            (vec![store(a), stored(b)], vec![borrow(Some(a)), write_with]),
+            (vec![store(a)], vec![borrow(Some(a)), borrow(None), borrow(Some(a))]),
+            (vec![store(a)], vec![borrow(Some(b))]),
+            (vec![store(a)], vec![]),
+            (vec![], vec![borrow(Some(a))]),
+            (vec![stored(a), made(a)], vec![write_event(a)]),
+            (vec![made(a)], vec![write_event(a), borrow_with, plain_write]),
+            (vec![made(a)], vec![write_event(a), plain_write, borrow_with]),
+            (vec![made(b), stored(a)], vec![write_event(b)]),
+            (vec![made(a), ret(None)], vec![]),
+            (vec![made(b), stored(a)], vec![write_event(a), write_event(b), write_event(a)]),
+            (vec![made(b)], vec![write_event(b), write_event(a)]),
+            (vec![], vec![write_event(a), write_event(a)]),
+        ];
+        for (instrs, events) in functions {
+            images.push(one_function(&instrs, &events));
+            let mut later = one_function(&[store(a), made(b)], &[write_event(b), borrow(Some(a))]);
+            cells::push_function(&mut later, 7, &[], &[]);
+            cells::push_function(&mut later, 7, &instrs, &events);
+            images.push(later);
+        }
+    }
+    images
+}
+
+fn small_image(random: &mut Random) -> Vec<u8> {
+    let mut image = Vec::new();
+    for _ in 0..random.range(1, 2) {
+        let shape = Shape {
+            instrs: random.range(1, 10),
+            sites: random.pick(&[0, 5, 20]),
+            control: random.pick(&[0, 15, 30]),
+            actions: random.pick(&[0, 10, 40]),
+            misfits: 15,
+            one_place: random.chance(50),
+        };
+        let (instrs, events) = any_function(random, shape);
+        cells::push_function(&mut image, random.bits() as u16, &instrs, &events);
+    }
+    image
+}
+
+/// Replays a sample; gives the number of cases, or the first that is answered differently.
+pub fn replay(bytes: &[u8], subject: &dyn Operations) -> Result<usize, String> {
+    let line = bytes.iter().position(|byte| *byte == b'\n');
+    let mut rest = &bytes[line.ok_or("the sample has no first line")? + 1..];
+    let mut take = |count: usize| -> Result<&[u8], String> {
+        let (part, after) = rest.split_at_checked(count).ok_or("the sample ends too early")?;
+        rest = after;
+        Ok(part)
+    };
+    let number = |bytes: &[u8]| bytes.iter().rev().fold(0, |sum, byte| sum << 8 | *byte as usize);
+    let cases = number(take(2)?);
+    for case in 0..cases {
+        let operation = OPERATIONS[number(take(1)?)];
+        let length = number(take(2)?);
+        let image = take(length)?;
+        let (expected, written) = match number(take(1)?) {
+            0 => {
+                let length = number(take(2)?);
+                let num_rewrites = number(take(4)?) as u32;
+                let changed = number(take(1)?) == 1;
+                (Ok(Success { length, num_rewrites, changed }), take(length)?)
+            }
+            _ => {
+                let refusal = Refusal {
+                    number: number(take(1)?) as u8,
+                    position: number(take(2)?) as u32,
+                    detail: number(take(4)?) as u32,
+                };
+                (Err(refusal), &[][..])
+            }
+        };
+        let mut out = vec![0xA5; image.len()];
+        let answer = subject.run(operation, image, &mut out);
+        let kept = out[written.len()..].iter().all(|byte| *byte == 0xA5);
+        if answer != expected || out[..written.len()] != *written || !kept {
+            return Err(format!("case {case}: {expected:?}, not {answer:?}"));
+        }
+    }
+    match take(1) {
+        Err(_) => Ok(cases),
+        Ok(_) => Err("the sample goes on after its last case".into()),
+    }
+}

@@ -1,0 +1,82 @@
+//! The smallest image that still shows a difference, by steps that each keep it.
+
+use crate::cells::{self, CELL};
+
+/// Takes away functions, cells and bytes as long as `shows` holds.
+pub fn shrink(image: &[u8], shows: impl Fn(&[u8]) -> bool) -> Vec<u8> {
+    let mut best = image.to_vec();
+    loop {
+        let smaller = candidates(&best).find(|candidate| shows(candidate));
+        match smaller {
+            Some(smaller) => best = smaller,
+            None => return best,
+        }
+    }
+}
+
+/// Images that are smaller than the given one, the much smaller ones first.
+fn candidates(image: &[u8]) -> impl Iterator<Item = Vec<u8>> + '_ {
+    let without = move |from: usize, to: usize| [&image[..from], &image[to..]].concat();
+    let heads = heads(image);
+    let ends: Vec<usize> = heads.iter().skip(1).copied().chain([image.len()]).collect();
+
+    let functions =
+        heads.clone().into_iter().zip(ends.clone()).map(move |(head, end)| without(head, end));
+
+    // Runs of instruction or event cells, long ones first, with the head's count.
+    let runs = heads.into_iter().flat_map(move |head| {
+        let cell: &cells::Cell = image[head..head + CELL].try_into().unwrap();
+        let instrs = cells::half(cell, 3) as usize;
+        let events = cells::half(cell, 5) as usize;
+        let first = head + CELL;
+        let parts = [(3, first, instrs), (5, first + instrs * CELL, events)];
+        parts.into_iter().flat_map(move |(count_at, start, count)| {
+            let sizes = std::iter::successors(Some(count), |size| Some(size / 2));
+            sizes.take_while(|size| *size > 0).flat_map(move |size| {
+                (0..=count - size).step_by(size).filter_map(move |skip| {
+                    let from = start + skip * CELL;
+                    let to = from + size * CELL;
+                    if to > image.len() {
+                        return None;
+                    }
+                    let mut smaller = without(from, to);
+                    let left = (count - size) as u16;
+                    smaller[head + count_at..head + count_at + 2]
+                        .copy_from_slice(&left.to_le_bytes());
+                    Some(smaller)
+                })
+            })
+        })
+    });
+
+    // Parts of the bytes, whatever they are.
+    let tails = (0..7).map(|power| image.len() >> power).filter(|cut| *cut > 0);
+    let tails = tails.chain((1..=CELL).rev()).filter(|cut| *cut <= image.len());
+    let tails = tails.map(|cut| image[..image.len() - cut].to_vec());
+    let chunks = (0..image.len() / CELL).map(move |at| without(at * CELL, (at + 1) * CELL));
+
+    // Smaller bytes.
+    let bytes = (0..image.len()).flat_map(move |at| {
+        let byte = image[at];
+        let smaller = [0, 1, byte / 2, byte.saturating_sub(1)];
+        smaller.into_iter().filter(move |new| *new < byte).map(move |new| {
+            let mut copy = image.to_vec();
+            copy[at] = new;
+            copy
+        })
+    });
+
+    functions.chain(runs).chain(tails).chain(chunks).chain(bytes)
+}
+
+/// Where the heads are, as far as they can be followed.
+fn heads(image: &[u8]) -> Vec<usize> {
+    let cells = cells::cells(image);
+    let mut heads = Vec::new();
+    let mut at = 0;
+    while at < cells.len() && cells[at][0] == cells::HEAD {
+        heads.push(at * CELL);
+        at += 1 + cells::half(&cells[at], 3) as usize + cells::half(&cells[at], 5) as usize;
+    }
+    heads
+}
