@@ -1,16 +1,50 @@
 /*
- * The MatchDesk rewrite: image checks, cleanup, CrystalFold and the whole rewrite of cell images.
+ * The MatchDesk rewrite: image checks, cleanup, CrystalFold and the whole rewrite of cell images (docs/FORMAT.md says what an image is).
  *
- * Library: target/staticlib/libcapi.a, made by `rt staticlib capi`. Every function is proved to meet its contract (crates/capi/specs),
- * which holds for all bytes and lengths. No function allocates, keeps a pointer, reads or writes anything but what it is lent.
+ * Library: target/staticlib/libcapi.a for Linux on x86-64, made by `rt staticlib capi`. Every function is proved to meet its contract
+ * (crates/capi/specs/Contracts.antt), for images of all bytes and lengths and outputs of all lengths.
  *
- * Every pointer must be valid for the length given with it, and not NULL even for a length of 0. What is written (out, and the two numbers)
- * must not overlap with anything else that the call is lent.
+ * What a caller must see to, and no proof covers:
+ *
+ * - Every pointer is valid for the length given with it, and not NULL even for a length of 0.
+ * - What is written (the output, and the two numbers) overlaps with nothing else that the call is lent: the output isn't the image, and the
+ *   two numbers are two.
+ * - The floating-point environment is the default one for matchdesk_crystalfold and matchdesk_rewrite: see 'The floating-point environment'
+ *   below.
+ * - There is room on the stack: MATCHDESK_STACK.
+ *
+ * No function allocates, keeps a pointer or a state, or reads or writes anything but what it is lent. Threads may call at the same time, if
+ * what one call writes is lent to no other. The library needs one symbol from elsewhere, memset. This header is for C99 or later and for C++.
  */
 #ifndef MATCHDESK_H
 #define MATCHDESK_H
 
 #include <stddef.h>
+
+#if __STDC_HOSTED__
+#include <fenv.h>
+#endif
+
+/* The version of this interface: it rises when a function is added or an answer changes. */
+#define MATCHDESK_VERSION 1
+
+/* The bytes of a cell. */
+#define MATCHDESK_CELL 16
+/* The longest image, in bytes. An output as long as the image always suffices. */
+#define MATCHDESK_MAX_IMAGE 65536
+/* The most instruction cells and the most event cells of a function. */
+#define MATCHDESK_MAX_INSTRUCTIONS 2048
+#define MATCHDESK_MAX_EVENTS 1024
+/* Registers are 0 to MATCHDESK_REGISTERS - 1. */
+#define MATCHDESK_REGISTERS 256
+
+/*
+ * A call takes no more stack than this, in bytes, whatever the image. Measured, not proved (tests/cinterface/stack.c paints a stack and looks
+ * how far each call went): 21 KiB for matchdesk_cleanup and matchdesk_rewrite, 14 KiB for matchdesk_crystalfold and matchdesk_site_check,
+ * under 1 KiB for matchdesk_image_check. The rest is reserve. The frames have fixed sizes, and no function calls itself. What a thread needs
+ * for itself comes on top: one made with a stack of 28 KiB could call matchdesk_rewrite, one of 24 KiB could not.
+ */
+#define MATCHDESK_STACK 32768
 
 #ifdef __cplusplus
 extern "C" {
@@ -34,28 +68,36 @@ extern "C" {
  *   25  a StoreVar's write site with more than one event
  *   26  an event's write site on no command
  *
- * *position is the function's position from 0. *detail is the cell's position in the image for 2 to 4, the site for 11 to 13, 21, 22 and
- * 24 to 26. Whatever else would stand there is 0, and both are 0 if the image is good.
+ * Both numbers are always written:
+ *
+ *              *position                         *detail
+ *   good       0                                 0
+ *   refusal    the function's, counted from 0;   2 to 4: the cell's position in the image, counted from 0
+ *              0 for 1                           11 to 13, 21, 22, 24 to 26: the site
+ *                                                1, 14, 23: 0
+ *
+ * Nothing else is written.
  */
 
-/* The image check: 1 to 4. */
+/* The image check: 1; then 2 to 4, cell by cell. */
 size_t matchdesk_image_check(const unsigned char *image, size_t image_length, size_t *position, size_t *detail);
 
-/* The site check: as the image check, then 11 to 26. */
+/* The site check: as the image check; then 11 to 26, function by function. */
 size_t matchdesk_site_check(const unsigned char *image, size_t image_length, size_t *position, size_t *detail);
 
 /*
- * The rewriting operations return 0 on success, and else the refusal's number: 1, then
+ * The rewriting operations return 0 on success, and else the refusal's number: 1; then
  *
  *    5  the output is shorter than the image
  *
- * and then as the site check.
+ * and then as the site check. Both numbers and every byte of the output are said, on success and on a refusal:
  *
- *              *first                        *second
- *   success    length written, in bytes      number of rewrites; the image has changed if it isn't 0
- *   refusal    position                      detail
+ *              *first                         *second                             out
+ *   success    length written, in bytes; no   number of rewrites; the image has   the rewritten image up to that length,
+ *              more than image_length         changed if it isn't 0               behind it every byte as it was
+ *   refusal    position, as above; 0 for 5    detail, as above; 0 for 5           every byte as it was
  *
- * On success the bytes of the output past the length written keep their values; on a refusal all do.
+ * The image is only read. What is written passes both checks.
  */
 
 /* Cleanup of every function. */
@@ -66,6 +108,45 @@ size_t matchdesk_crystalfold(const unsigned char *image, size_t image_length, un
 
 /* The whole rewrite: cleanup of every function, then CrystalFold of every function. */
 size_t matchdesk_rewrite(const unsigned char *image, size_t image_length, unsigned char *out, size_t out_length, size_t *first, size_t *second);
+
+/*
+ * The floating-point environment.
+ *
+ * CrystalFold folds f64 commands with the machine's own operations, and the proofs speak of IEEE 754's default: round to nearest, ties to
+ * even; subnormal numbers kept; no traps. In a thread that has set something else, matchdesk_crystalfold and matchdesk_rewrite write other
+ * bytes, or don't come back:
+ *
+ *   rounding upward            1.0 / 3.0 folds to 3FD5555555555556, not 3FD5555555555555
+ *   FTZ and DAZ set (start-    5e-324 + 0.0 folds to 0.0, not 5e-324; CmpEq of 5e-324 and 0.0 to true, not false
+ *   up code of -ffast-math)
+ *   FE_INVALID trapped         inf - inf raises SIGFPE
+ *
+ * The fold also raises exception flags (FE_INEXACT and others) and leaves them raised. The other functions compute no floating-point number.
+ *
+ * These two set the default environment before a call and give the thread its own back afterwards, its flags included:
+ *
+ *   fenv_t host;
+ *   if (matchdesk_enter_default_environment(&host) != 0)
+ *       ... it can't be set: don't call
+ *   number = matchdesk_rewrite(image, image_length, out, out_length, &first, &second);
+ *   matchdesk_leave_default_environment(&host);
+ *
+ * They are fegetenv and fesetenv of the C library: link with -lm. That these also clear FTZ and DAZ is not in the C standard; glibc does it,
+ * and tests/cinterface/environment.c tries it.
+ */
+#if __STDC_HOSTED__
+/* Keeps the thread's environment in *host and sets the default one: 0 if that is done. */
+static inline int matchdesk_enter_default_environment(fenv_t *host)
+{
+    return fegetenv(host) != 0 || fesetenv(FE_DFL_ENV) != 0;
+}
+
+/* Sets the thread's own environment again: 0 if that is done. */
+static inline int matchdesk_leave_default_environment(const fenv_t *host)
+{
+    return fesetenv(host) != 0;
+}
+#endif
 
 #ifdef __cplusplus
 }

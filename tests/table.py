@@ -1,23 +1,30 @@
 #!/usr/bin/env python3
-"""table.py [CRYSTALFOLD_RS [TABLE_ANTT]]: hold the table of commands against the Rust text.
+"""Holds the table of commands, crates/cells/specs/Table.antt, against the text of the Rust.
+
+    python3 tests/table.py [CRYSTALFOLD_RS [TABLE_ANTT]]          from anywhere
+    python3 tests/table.py --help
+
+CRYSTALFOLD_RS is the original's crystalfold.rs; without it the file is looked for in the folder that SM_IR_PASSES names (absolute, or from the
+root of the repository), and else in ../shared/docs/src/crates/sm-ir/src/passes.
 
 Commands are numbered in the order of `is_crystalfold_barrier`, its barriers first; the operands of each are those of its arm in
 `fold_constants_and_identities`, and the kind of each follows from its name by the widths of document 01. Says 'ok', or the
-first difference.
+first difference. The exit status is 0 if there is none, 1 if there is one, and 2 if a file is missing.
 """
+import os
 import pathlib
 import re
 import sys
 
-HERE = pathlib.Path(__file__).resolve().parent.parent
-RUST = HERE / "../shared/docs/src/crates/sm-ir/src/passes/crystalfold.rs"
-TABLE = HERE / "crates/cells/specs/Table.antt"
+ROOT = pathlib.Path(__file__).resolve().parent.parent
+RUST = ROOT / os.environ.get("SM_IR_PASSES", "../shared/docs/src/crates/sm-ir/src/passes") / "crystalfold.rs"
+TABLE = ROOT / "crates/cells/specs/Table.antt"
 
 REGISTERS = {"dst", "src", "lhs", "rhs", "cond"}
 SITES = {"activation_site", "write_site"}
 VALUES = {"LoadBool": "Flag", "LoadQ": "Quad", "LoadI32": "Four", "LoadU32": "Four", "LoadFx": "Four", "LoadF64": "Eight"}
 OPTIONAL = {("Call", "dst"), ("ClosureCall", "dst"), ("Ret", "src")}
-COMPUTED = re.compile(r"(Add|Sub|Mul|Div|Mod)(I32|U32|Fx|F64)|Bool(And|Or|Not)|Cmp\w+|Q(And|Or|Not|Impl)")
+COMPUTED = re.compile(r"(Add|Sub|Mul|Div|Mod)(I32|U32|Fx|F64)|Bool(And|Or|Not)|Cmp\w+|Q(Truth)?(And|Or|Not|Impl)")
 
 
 def body(text, name):
@@ -101,12 +108,23 @@ def difference(rust, table):
 
 
 def main():
-    paths = [pathlib.Path(p) for p in sys.argv[1:]]
-    rust, table = (paths + [RUST, TABLE][len(paths):])[:2]
-    wrong = difference(rust.read_text(), table.read_text())
+    words = sys.argv[1:]
+    if "--help" in words or len(words) > 2:
+        print(__doc__.strip())
+        return 0 if "--help" in words else 2
+    paths = [pathlib.Path(word) for word in words]
+    rust, table = paths + [RUST, TABLE][len(paths):]
+    for path, remedy in (rust, "; name the original's crystalfold.rs, or its folder in SM_IR_PASSES"), (table, ""):
+        if not path.is_file():
+            print(f"table.py: no {path}{remedy}", file=sys.stderr)
+            return 2
+    try:
+        wrong = difference(rust.read_text(), table.read_text())
+    except ValueError:
+        wrong = f"{rust} has no is_crystalfold_barrier or no fold_constants_and_identities"
     print(wrong or "ok")
-    sys.exit(wrong is not None)
+    return 1 if wrong else 0
 
 
 if __name__ == "__main__":
-    main()
+    sys.exit(main())

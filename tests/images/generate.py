@@ -1,169 +1,561 @@
 #!/usr/bin/env python3
-"""Makes what the program `cases_passes` runs of the images below: its data/images.bin, and its expected output, stdout.
+"""Makes what the program `cases_passes` runs: its data/images.bin of the rows below, its data/sample.bin of the original's answers
+(tests/differential), and its expected output, stdout. README.md has the layout, and how to add a row or an operation.
 
-Every expected byte is written out by hand from document 01. A word is a cell in hexadecimal, with zeros behind it. The file has the
-layout of the sample (tests/differential/README.md), whose counts go into stdout too.
+Every expected byte is written out by hand from document 01. A word is a cell in hexadecimal, with zeros behind it; `CELL*N` is the cell N times,
+and `CELL*N@P` numbers these from 0 in the 2 bytes at P. Commands that the rows name by their bytes:
+
+Assert 01, Call 02, ClockRead 03, ClosureCall 04, EventPost 05, GateRead 06, GateWrite 07, Jmp 08, JmpIf 09, Label 0A, PulseEmit 0B, Ret 0C,
+RngNextI32 0D, RngSeed 0E, StateQuery 0F, StateUpdate 10, AddF64 11, AddFx 12, AddI32 13, BoolAnd 16, BoolNot 17, BoolOr 18, CmpEq 19,
+CmpI32Le 1A, CmpI32Lt 1B, CmpU32Le 1C, CmpU32Lt 1D, AddU32 1E, SubU32 1F, MulU32 20, DivU32 21, ModU32 22, CmpNe 23, DivF64 25, DivFx 26,
+DivI32 27, LoadBool 28, LoadF64 29, LoadFx 2A, LoadI32 2B, LoadQ 2C, LoadText 2D, LoadU32 2E, LoadVar 2F, MakeRecord 32, ModI32 39, MulF64 3A,
+MulFx 3B, MulI32 3C, QAnd 3D, QImpl 3E, QNot 3F, QOr 40, QTruth 41 to 44, StoreVar 4D, SubF64 4E, SubFx 4F, SubI32 50.
 """
 import collections
 import os
 import struct
+import sys
 
 ROOT = os.path.join(os.path.dirname(os.path.abspath(__file__)), "..", "..")
 CASES = os.path.join(ROOT, "crates", "cases_passes")
-# The answers of the original; the program replays them without their first line, which says how they were made.
+# The answers of the original; its first line says how they were made.
 SAMPLE = os.path.join(ROOT, "tests", "differential", "sample.bin")
-REWRITE, CLEANUP, CRYSTALFOLD = range(3)
 
-# name, image, and what cleanup, CrystalFold and the whole rewrite return, each with its count; None is the image itself and 0
-GOOD = [
-    ("the printed example", "F0070003 2B010005 13020001000100 0C010200",
-     None, ("F0070003 2B010005 2B02000A 0C010200", 1), ("F0070003 2B010005 2B02000A 0C010200", 1)),
-    ("Label 1, Jmp 1, Label 1", "F0070003 0A0100 080100 0A0100",
-     ("F0070002 0A0100 0A0100", 1), None, ("F0070002 0A0100 0A0100", 1)),
-    ("LoadI32 r1, LoadBool r1", "F0070002 2B010005 28010001",
-     ("F0070001 28010001", 1), None, ("F0070001 28010001", 1)),
-    ("two LoadU32 r1", "F0070002 2E010005 2E010005", None, None, None),
-    ("I32 2,147,483,647 + 1", "F0070003 2B0100FFFFFF7F 2B020001 13030001000200",
-     None, ("F0070003 2B0100FFFFFF7F 2B020001 2B030000000080", 1), ("F0070003 2B0100FFFFFF7F 2B020001 2B030000000080", 1)),
-    ("I32 -2,147,483,648 / -1", "F0070003 2B010000000080 2B0200FFFFFFFF 27030001000200", None, None, None),
-    ("QAnd T F", "F0070003 2C010002 2C020001 3D030001000200",
-     None, ("F0070003 2C010002 2C020001 2C030000", 1), ("F0070003 2C010002 2C020001 2C030000", 1)),
-    ("x + 0.0", "F0070002 29020000 11030001000200", None, None, None),
-    ("folded loads of one register stay", "F0070003 2B010005 13020001000100 13020001000100",
-     None, ("F0070003 2B010005 2B02000A 2B02000A", 2), ("F0070003 2B010005 2B02000A 2B02000A", 2)),
-    ("Jmp at a function's end", "F0070002 0A0100 080100", None, None, None),
-    ("register 255", "F0070002 2BFF0007 3CFF00FF00FF00",
-     None, ("F0070002 2BFF0007 2BFF0031", 1), ("F0070002 2BFF0007 2BFF0031", 1)),
-    ("no bytes", "", None, None, None),
-    ("no cells", "F0070000", None, None, None),
-    ("events of a removed StoreVar",
-     "F0070004000200 2B010005 0C 4D0500010001070000000108 0A0300 000107 0100000000000108",
-     ("F0070003 2B010005 0C 0A0300", 1), None, ("F0070003 2B010005 0C 0A0300", 1)),
-    ("events kept behind fewer cells",
-     "F0070003000300 2B010005 2B010006 320100020003000105 0100000000000105 00 010000000000010500000002",
-     ("F0070002000300 2B010006 320100020003000105 0100000000000105 00 010000000000010500000002", 1), None,
-     ("F0070002000300 2B010006 320100020003000105 0100000000000105 00 010000000000010500000002", 1)),
-    ("a load removed, the next one folded", "F0070003 2B010005 28010001 1702000100",
-     ("F0070002 28010001 1702000100", 1), ("F0070003 2B010005 28010001 28020000", 1),
-     ("F0070002 28010001 28020000", 2)),
-    ("a removed label between folds",
-     "F0070005 2B010005 13020001000100 0A0100 0A0100 13030002000200",
-     ("F0070004 2B010005 13020001000100 0A0100 13030002000200", 1),
-     ("F0070005 2B010005 2B02000A 0A0100 0A0100 13030002000200", 1),
-     ("F0070004 2B010005 2B02000A 0A0100 13030002000200", 2)),
-    ("the second function moves up",
-     "F0070003 0A0100 0A0100 0C F0080003 2B010005 13020001000100 0C010200",
-     ("F0070002 0A0100 0C F0080003 2B010005 13020001000100 0C010200", 1),
-     ("F0070003 0A0100 0A0100 0C F0080003 2B010005 2B02000A 0C010200", 1),
-     ("F0070002 0A0100 0C F0080003 2B010005 2B02000A 0C010200", 2)),
-    ("registers unknown in the next function", "F0070001 2B010005 F0080001 13020001000100", None, None, None),
-    ("one site in two functions",
-     "F0070002000100 0C 320100020003000105 0100000000000105 F0000000 F0080001000100 320100020003000105 0100000000000105",
-     ("F0070001 0C F0000000 F0080001000100 320100020003000105 0100000000000105", 1), None,
-     ("F0070001 0C F0000000 F0080001000100 320100020003000105 0100000000000105", 1)),
-]
+GROUP, NAME, IMAGE, OUTPUT = range(4)
+IMAGE_CHECK, SITE_CHECK, CLEANUP, CRYSTALFOLD, REWRITE = range(16, 21)
 
-# name, image, refusal: number, position, detail. An image may be given by its length, of zeros.
-REFUSED = [
-    ("1 byte", 1, (1, 0, 0)),
-    ("15 bytes", 15, (1, 0, 0)),
-    ("17 bytes", 17, (1, 0, 0)),
-    ("65,535 bytes", 65535, (1, 0, 0)),
-    ("no F0", "00", (2, 0, 0)),
-    ("an instruction past the end", "F0070001", (2, 0, 0)),
-    ("an event past the end", "F0070000000100", (2, 0, 0)),
-    ("no command", "F0070001 00", (3, 0, 1)),
-    ("command 52", "F0070001 52", (3, 0, 1)),
-    ("event kind 2", "F0070000000100 02", (3, 0, 1)),
-    ("a spare byte of a head", "F007000000000001", (4, 0, 0)),
-    ("register 256", "F0070001 2B0001", (4, 0, 1)),
-    ("an absent value not zero", "F0070001 0C0001", (4, 0, 1)),
-    ("a spare byte of an event", "F0070000000100 000000000000000000000000000000FF", (4, 0, 1)),
-    ("11", "F0070002 4D000000000109 4D000000000109", (11, 0, 9)),
-    ("12", "F0070000000100 010109", (12, 0, 9)),
-    ("12, the largest site", "F0070000000100 0101FFFFFFFF", (12, 0, 4294967295)),
-    ("13", "F0070000000200 000109 000109", (13, 0, 9)),
-    ("14, no event", "F0070001 4D000000000109", (14, 0, 0)),
-    ("14, no command", "F0070000000100 000109", (14, 0, 0)),
-    ("21", "F0070002 320000000000000105 320000000000000105", (21, 0, 5)),
-    ("22", "F0070000000100 0000000000000105", (22, 0, 5)),
-    ("23", "F0070000000100 01", (23, 0, 0)),
-    ("24", "F0070001 320000000000000105", (24, 0, 5)),
-    ("25", "F0070001000200 4D0000000000000000000105 0100000000000105 0100000000000105", (25, 0, 5)),
-    ("26", "F0070000000100 0100000000000105", (26, 0, 5)),
+# name, image, answers by operation: a refusal (number, position, detail), or the bytes written and the count of rewrites; a check writes none
+Row = collections.namedtuple("Row", "name image answers")
+
+
+def function(code):
+    """A function with no events by its instruction cells."""
+    return ("F00700%02X %s" % (len(code.split()), code)).strip()
+
+
+def good(name, image, cleanup=None, crystalfold=None, rewrite=None):
+    """An image that both checks pass; None is the image itself and no rewrite."""
+    same = (image, 0)
+    answers = {CLEANUP: cleanup or same, CRYSTALFOLD: crystalfold or same, REWRITE: rewrite or same}
+    return Row(name, image, {IMAGE_CHECK: ("", 0), SITE_CHECK: ("", 0), **answers})
+
+
+def cleaned(name, image, output, count):
+    """Changed by cleanup alone."""
+    return good(name, image, cleanup=(output, count), rewrite=(output, count))
+
+
+def folded(name, code, output, count):
+    """A function's instruction cells, changed by CrystalFold alone."""
+    answer = (function(output), count)
+    return good(name, function(code), crystalfold=answer, rewrite=answer)
+
+
+def kept(name, code):
+    """A function's instruction cells, which stay."""
+    return good(name, function(code))
+
+
+def refused(name, image, number, position, detail):
+    """Refusals from 11 on are the site check's alone; the operations refuse as it does."""
+    answers = dict.fromkeys((IMAGE_CHECK, SITE_CHECK, CLEANUP, CRYSTALFOLD, REWRITE), (number, position, detail))
+    if 11 <= number:
+        answers[IMAGE_CHECK] = ("", 0)
+    return Row(name, image, answers)
+
+
+# A name and rows each, in the order of the document's modules: the checks, cleanup, CrystalFold, the image run.
+GROUPS = [
+    ("images, good", [
+        good("no cells", "F007"),
+        good("register 255", "F0070001 2BFF0005"),
+        good("a StoreVar with its events", "F00700010002 4D0000000001090000000105 000109 0100000000000105"),
+        good("a MakeRecord with two events", "F00700010002 320000000000000105 0100000000000105 0100000000000105"),
+    ]),
+    ("images, refusals 3 and 4", [
+        refused("no command", "F0070001 00", 3, 0, 1),
+        refused("command 52", "F0070001 52", 3, 0, 1),
+        refused("event kind 2", "F00700000001 02", 3, 0, 1),
+        refused("register 256", "F0070001 2B000105", 4, 0, 1),
+        refused("presence 2", "F00700000001 0002", 4, 0, 1),
+        refused("an absent site not zero", "F00700000001 000001", 4, 0, 1),
+        refused("bool 2", "F0070001 28000002", 4, 0, 1),
+        refused("quad 4", "F0070001 2C000004", 4, 0, 1),
+        refused("a spare byte", "F0070001 0A000001", 4, 0, 1),
+    ]),
+    ("images, refusals 11 to 14", [
+        refused("11", "F0070002 4D000000000109 4D000000000109", 11, 0, 9),
+        refused("12", "F00700000001 010109", 12, 0, 9),
+        refused("13", "F00700000002 000109 000109", 13, 0, 9),
+        refused("14 of a command", "F0070001 4D000000000109", 14, 0, 0),
+        refused("14 of an event", "F00700000001 000109", 14, 0, 0),
+    ]),
+    ("images, refusals 21 to 26", [
+        refused("21", "F0070002 320000000000000105 320000000000000105", 21, 0, 5),
+        refused("21 of two commands", "F0070002 4D0000000000000000000105 320000000000000105", 21, 0, 5),
+        refused("22", "F00700000001 0000000000000105", 22, 0, 5),
+        refused("23", "F00700000001 01", 23, 0, 0),
+        refused("24", "F0070001 320000000000000105", 24, 0, 5),
+        refused("25", "F00700010002 4D0000000000000000000105 0100000000000105 0100000000000105", 25, 0, 5),
+        refused("26", "F00700000001 0100000000000105", 26, 0, 5),
+    ]),
+    ("images, the earlier refusal", [
+        refused("4 before 3", "F0070002 2B000105 00", 4, 0, 1),
+        refused("the first repeat", "F0070004 4D000000000101 4D000000000102 4D000000000102 4D000000000101", 11, 0, 2),
+        refused("12 before 13", "F00700000003 010109 000108 000108", 12, 0, 9),
+        refused("13 before 12", "F00700000003 000108 000108 010109", 13, 0, 8),
+        refused("14 before 21", "F0070002 4D0000000001090000000105 4D0000000000000000000105", 14, 0, 0),
+        refused("22 before 23", "F00700000002 0000000000000105 01", 22, 0, 5),
+        refused("23 before 22", "F00700000002 01 0000000000000105", 23, 0, 0),
+        refused("24 before 25", "F00700020002 320000000000000104 4D0000000000000000000105 0100000000000105 0100000000000105", 24, 0, 4),
+        refused("25 before 24", "F00700020002 4D0000000000000000000105 320000000000000104 0100000000000105 0100000000000105", 25, 0, 5),
+    ]),
+    # a fault of the image check in function 1 comes before a site fault in function 0
+    ("images, two functions", [
+        refused("a fault behind a site fault", "F0070001 320000000000000105 F0070002 0A01 00", 3, 1, 4),
+        refused("a site fault", "F0070001 320000000000000105 F0070002 0A01 0A01", 24, 0, 5),
+        refused("a site fault in function 1", "F0070001 0A01 F0070002 320000000000000105 0A01", 24, 1, 5),
+    ]),
+    # 2 comes before 4 of the same head
+    ("images, heads and lengths", [
+        refused("a head with a spare byte", "F007000100000001 0A01 F007 F007 F007", 4, 0, 0),
+        refused("2 before 4, counts", "F007000500000001 0A01 F007 F007 F007", 2, 0, 0),
+        refused("2 before 4, first byte", "F107000100000001 0A01 F007 F007 F007", 2, 0, 0),
+        refused("a length of 79", 79, 1, 0, 0),
+        good("nothing", ""),
+    ]),
+    ("images, limits", [
+        cleaned("2,048 instructions", "F007000008 0A01*2048", "F0070001 0A01", 2047),
+        refused("2,049 instructions", "F007000108 0A01*2049", 2, 0, 0),
+        good("1,024 events", "F0070000000004 00*1024"),
+        refused("1,025 events", "F0070000000104 00*1025", 2, 0, 0),
+        good("65,536 bytes", "F007*4096"),
+        refused("2,048 sites", "F007000008 4D0000000001*2048@6 F007*2047", 14, 0, 0),
+        refused("the last of 2,048 sites repeated", "F007000008 4D0000000001*2047@6 4D000000000101 F007*2047", 11, 0, 1),
+        refused("65,552 bytes", "F007*4097", 1, 0, 0),
+    ]),
+    ("cleanup, duplicate labels", [
+        cleaned("two equal labels",
+                "F0070002000000 0A0100 0A0100",
+                "F0070001000000 0A0100", 1),
+        cleaned("five labels",
+                "F0070005000000 0A0100 0A0100 0A0100 0A0200 0A0100",
+                "F0070003000000 0A0100 0A0200 0A0100", 2),
+        good("equal labels apart", "F0070003000000 0A0100 2F01000200 0A0100"),
+        good("labels 1 and 257", "F0070002000000 0A0100 0A0101"),
+    ]),
+    ("cleanup, unreachable cells", [
+        cleaned("behind Ret",
+                "F0070003000000 0C 2F01000200 2F02000200",
+                "F0070001000000 0C", 2),
+        cleaned("behind Jmp, up to a label",
+                "F0070004000000 080500 2F01000200 0A0200 2F01000200",
+                "F0070003000000 080500 0A0200 2F01000200", 1),
+        good("behind JmpIf", "F0070002000000 0901000500 2F01000200"),
+        cleaned("Ret behind Ret",
+                "F0070003000000 0C010200 0C 0A0100",
+                "F0070002000000 0C010200 0A0100", 1),
+    ]),
+    ("cleanup, jumps to the next cell", [
+        cleaned("Jmp to the next cell",
+                "F0070002000000 080100 0A0100",
+                "F0070001000000 0A0100", 1),
+        good("Jmp elsewhere", "F0070002000000 080200 0A0100"),
+        good("Jmp at the end", "F0070002000000 0A0100 080100"),
+        good("JmpIf to the next cell", "F0070002000000 0902000100 0A0100"),
+        cleaned("labels meet too late",
+                "F0070003000000 0A0100 080100 0A0100",
+                "F0070002000000 0A0100 0A0100", 1),
+    ]),
+    ("cleanup, redundant loads", [
+        cleaned("LoadI32, LoadBool",
+                "F0070002000000 2B010005 28010001",
+                "F0070001000000 28010001", 1),
+        cleaned("the same load",
+                "F0070002000000 2B010005 2B010005",
+                "F0070001000000 2B010005", 1),
+        cleaned("the five kinds",
+                "F0070005000000 2C010003 28010001 2B010005 290100000000000000F03F 2A0100E803",
+                "F0070001000000 2A0100E803", 4),
+        good("two registers", "F0070002000000 2B010005 2B020005"),
+        good("two LoadU32", "F0070002000000 2E010005 2E010005"),
+        good("LoadU32 between", "F0070003000000 2B010005 2E010005 2B010006"),
+        good("LoadVar, LoadI32", "F0070002000000 2F01000200 2B010005"),
+    ]),
+    ("cleanup, all four sweeps", [
+        cleaned("all four sweeps",
+                "F007000C000000 0A0100 0A0100 2B010005 080200 2F02000100 0A0200 2B010006 2B010007 080300 0C 0A0300 0A0300",
+                "F0070005000000 0A0100 2B010005 0A0200 2B010007 0A0300", 7),
+        cleaned("a jump over unreachable cells",
+                "F0070003000000 080100 2F01000200 0A0100",
+                "F0070001000000 0A0100", 2),
+        cleaned("unreachable loads",
+                "F0070005000000 0C 2B010005 2B010006 0A0100 0A0100",
+                "F0070002000000 0C 0A0100", 3),
+        good("no cells", "F0070000000000"),
+    ]),
+    ("cleanup, events", [
+        cleaned("both sites of a StoreVar",
+                "F0070004000400 0C 4D0500010001070000000108 0A0300 4D0500010001090000000106 000107 000109 0100000000000108 0100000000000106",
+                "F0070003000200 0C 0A0300 4D0500010001090000000106 000109 0100000000000106", 1),
+        cleaned("three events of a MakeRecord",
+                "F0070003000400 320100020003000105 0C 320100020003000109 010000000000010900000001 0100000000000105 010000000000010900000002 010000000000010900000003",
+                "F0070002000100 320100020003000105 0C 0100000000000105", 1),
+        cleaned("an activation site with a removed write site's number",
+                "F0070004000200 0C 320100020003000107 0A0100 4D050001000107 000107 0100000000000107",
+                "F0070003000100 0C 0A0100 4D050001000107 000107", 1),
+        cleaned("a removed load",
+                "F0070003000200 2B010005 2B010006 4D0500010001010000000102 000101 0100000000000102",
+                "F0070002000200 2B010006 4D0500010001010000000102 000101 0100000000000102", 1),
+        cleaned("no site, and site 0 removed",
+                "F0070002000200 0C 4D05000100000000000001 00 0100000000000100",
+                "F0070001000100 0C 00", 1),
+    ]),
+    ("cleanup, longest function", [
+        cleaned("2,048 loads of one register", "F0070000080000 2B0100*2048@3", "F0070001000000 2B0100FF07", 2047),
+        good("2,048 labels", "F0070000080000 0A*2048@1"),
+        # Ret, then 1,024 StoreVars with write sites and 1,023 LoadVars; the Write events of the sites
+        cleaned("all but the first unreachable",
+                "F0070000080004 0C 4D05000100000000000001*1024@11 2F0100*1023@3 01000000000001*1024@7", "F0070001000000 0C", 2047),
+    ]),
+    ("fold, f64", [
+        folded("f64, each command",
+               "290100000000000000F83F 290200000000000000D03F 11030001000200 4E040001000200 3A050001000200 25060001000200",
+               "290100000000000000F83F 290200000000000000D03F 290300000000000000FC3F 290400000000000000F43F 290500000000000000D83F 2906000000000000001840", 4),
+        kept("f64, right unknown", "290100000000000000F83F 11030001000200 25030001000200 3A030001000200 4E030001000200"),
+        kept("f64, left of another kind", "2B010001000000 290200000000000000F83F 11030001000200 25030001000200 3A030001000200 4E030001000200"),
+        kept("DivF64 by either zero", "290100000000000000F83F 2902000000000000000000 2903000000000000000080 25040001000200 25050001000300"),
+        folded("-0.0 + 0.0 is 0.0",
+               "2901000000000000000080 2902000000000000000000 11030001000200",
+               "2901000000000000000080 2902000000000000000000 2903000000000000000000", 1),
+        kept("x + 0.0, x unknown", "2902000000000000000000 11030001000200"),
+    ]),
+    ("fold, NaN", [
+        folded("payload passed through, NaN folded",
+               "290100010000000000F07F 11020001000100",
+               "290100010000000000F07F 290200000000000000F87F", 1),
+        folded("negative NaN times 1.0",
+               "290100230100000000F8FF 290200000000000000F03F 3A030001000200",
+               "290100230100000000F8FF 290200000000000000F03F 290300000000000000F87F", 1),
+        folded("infinity less infinity",
+               "290100000000000000F07F 4E020001000100",
+               "290100000000000000F07F 290200000000000000F87F", 1),
+        folded("1.0 divided by NaN",
+               "290100000000000000F03F 290200010000000000F07F 25030001000200",
+               "290100000000000000F03F 290200010000000000F07F 290300000000000000F87F", 1),
+        folded("NaN equals nothing",
+               "290100010000000000F07F 19020001000100 23030001000100",
+               "290100010000000000F07F 28020000 28030001", 2),
+    ]),
+    ("fold, Fx", [
+        folded("Fx, each command",
+               "2A0100DC050000 2A0200F4010000 12030001000200 4F040001000200 3B050001000100 26060001000200",
+               "2A0100DC050000 2A0200F4010000 2A0300D0070000 2A0400E8030000 2A0500CA080000 2A0600B80B0000", 4),
+        folded("Fx, toward zero",
+               "2A0100FFFFFFFF 2A020001000000 2A030030F8FFFF 3B040001000200 26050001000300",
+               "2A0100FFFFFFFF 2A020001000000 2A030030F8FFFF 2A040000000000 2A050000000000", 2),
+        folded("Fx, largest product",
+               "2A0100FFFFFF7F 2A0200E8030000 3B030001000200",
+               "2A0100FFFFFF7F 2A0200E8030000 2A0300FFFFFF7F", 1),
+        kept("Fx, outside i32", "2A0100FFFFFF7F 2A0200E9030000 2A030000000080 2A040001000000 3B050001000200 12060001000400 4F070003000400 26080001000400"),
+        kept("DivFx by 0", "2A0100DC050000 2A020000000000 26030001000200"),
+        kept("Fx, right of another kind", "2A0100DC050000 2B0200F4010000 12030001000200 26030001000200 3B030001000200 4F030001000200"),
+    ]),
+    ("fold, I32", [
+        folded("I32, each command",
+               "2B0100F9FFFFFF 2B020002000000 13030001000200 50040001000200 3C050001000200 27060001000200 39070001000200",
+               "2B0100F9FFFFFF 2B020002000000 2B0300FBFFFFFF 2B0400F7FFFFFF 2B0500F2FFFFFF 2B0600FDFFFFFF 2B0700FFFFFFFF", 5),
+        folded("I32, wrapping",
+               "2B0100FFFFFF7F 2B020001000000 2B030000000080 2B040000000100 13050001000200 50060003000200 3C070004000400",
+               "2B0100FFFFFF7F 2B020001000000 2B030000000080 2B040000000100 2B050000000080 2B0600FFFFFF7F 2B070000000000", 3),
+        kept("I32, least by -1, and by 0", "2B010000000080 2B0200FFFFFFFF 2B030000000000 27040001000200 39050001000200 27060002000300 39070002000300"),
+        kept("I32, left unknown", "2B020002000000 13030001000200 27030001000200 39030001000200 3C030001000200 50030001000200"),
+        kept("I32, right of another kind", "2B010002000000 2E020002000000 13030001000200 27030001000200 39030001000200 3C030001000200 50030001000200"),
+    ]),
+    ("fold, U32", [
+        folded("U32, each command",
+               "2E010007000000 2E020002000000 1E030001000200 1F040001000200 20050001000200 21060001000200 22070001000200",
+               "2E010007000000 2E020002000000 2E030009000000 2E040005000000 2E05000E000000 2E060003000000 2E070001000000", 5),
+        kept("U32, out of range", "2E0100FFFFFFFF 2E020001000000 2E030000000000 2E040000000100 1E050001000200 1F060003000200 20070004000400"),
+        kept("U32, by 0", "2E010007000000 2E020000000000 21030001000200 22040001000200"),
+        kept("U32, left of another kind", "2B010007000000 2E020002000000 1E030001000200 1F030001000200 20030001000200 21030001000200 22030001000200"),
+    ]),
+    ("fold, Bool", [
+        folded("Bool, each command",
+               "28010001 28020000 16030001000200 18040001000200 1705000100 1706000200 16070001000100 18080002000200",
+               "28010001 28020000 28030000 28040001 28050000 28060001 28070001 28080000", 6),
+        kept("Bool, unknown", "28010001 16030001000200 18040002000100 1705000200"),
+        kept("Bool, of another kind", "28010001 2B020001000000 16030001000200 18040002000100 1705000200"),
+    ]),
+    ("fold, quads", [
+        folded("quads, each command",
+               "2C010002 2C020001 2C030000 3D040001000200 40050001000200 3E060002000300 3F07000100 3F08000300",
+               "2C010002 2C020001 2C030000 2C040000 2C050003 2C060002 2C070001 2C080000", 5),
+        kept("quads, unknown", "2C010002 3D030001000200 40040002000100 3E050001000200 3F06000200"),
+        kept("quads, of another kind", "2C010002 28020001 3D030001000200 40040002000100 3E050001000200 3F06000200"),
+        kept("QTruth commands", "2C010002 2C020001 41010001000200 3F03000100 2C010002 42010001000200 3F03000100 2C010002 4301000200 3F03000100 2C010002 44010001000200 3F03000100"),
+    ]),
+    ("fold, comparisons", [
+        folded("I32 comparisons",
+               "2B0100FFFFFFFF 2B020001000000 1B030001000200 1A040001000200 1B050001000100 1A060001000100 1A070002000100",
+               "2B0100FFFFFFFF 2B020001000000 28030001 28040001 28050000 28060001 28070000", 5),
+        folded("U32 comparisons",
+               "2E0100FFFFFFFF 2E020001000000 1D030001000200 1C040001000200 1D050002000100 1C060001000100",
+               "2E0100FFFFFFFF 2E020001000000 28030000 28040000 28050001 28060001", 4),
+        kept("comparisons, of another kind", "2B010001000000 2E020002000000 1B030001000200 1A040002000100 1D050001000200 1C060002000100"),
+        kept("comparisons, unknown", "2B010001000000 1B030001000200 1A040002000100 2E010001000000 1D050001000200 1C060002000100"),
+        folded("equality of two kinds",
+               "2B010000000000 2E020000000000 2A030000000000 19040001000200 23050001000200 19060001000300 19070001000100 23080001000100",
+               "2B010000000000 2E020000000000 2A030000000000 28040000 28050001 28060000 28070001 28080000", 5),
+        folded("equality of zeros, quads, bools",
+               "2901000000000000000000 2902000000000000000080 2C030003 28040001 19050001000200 23060001000200 19070003000300 23080004000400",
+               "2901000000000000000000 2902000000000000000080 2C030003 28040001 28050001 28060000 28070001 28080000", 4),
+        kept("equality, unknown", "2B010000000000 19030001000200 19040002000100 23050001000200 23060002000100"),
+    ]),
+    ("fold, barriers", [
+        kept("barrier Assert", "2B010005000000 010100 13030001000100"),
+        kept("barrier Call", "2B010005000000 0201020003000400 13030001000100"),
+        kept("barrier ClockRead", "2B010005000000 030200 13030001000100"),
+        kept("barrier ClosureCall", "2B010005000000 0400000003000400 13030001000100"),
+        kept("barrier EventPost", "2B010005000000 050300 13030001000100"),
+        kept("barrier GateRead", "2B010005000000 06020003000400 13030001000100"),
+        kept("barrier GateWrite", "2B010005000000 07030004000200 13030001000100"),
+        cleaned("barrier Jmp", function("2B010005000000 080300 13030001000100"), function("2B010005000000 080300"), 1),
+        kept("barrier JmpIf", "2B010005000000 0901000300 13030001000100"),
+        kept("barrier Label", "2B010005000000 0A0300 13030001000100"),
+        kept("barrier PulseEmit", "2B010005000000 0B0300 13030001000100"),
+        cleaned("barrier Ret", function("2B010005000000 0C010100 13030001000100"), function("2B010005000000 0C010100"), 1),
+        kept("barrier RngNextI32", "2B010005000000 0D020003000400 13030001000100"),
+        kept("barrier RngSeed", "2B010005000000 0E02000300 13030001000100"),
+        kept("barrier StateQuery", "2B010005000000 0F02000300 13030001000100"),
+        kept("barrier StateUpdate", "2B010005000000 1003000200 13030001000100"),
+    ]),
+    ("fold, registers and chains", [
+        folded("register 255",
+               "2BFF0005000000 13FF00FF00FF00",
+               "2BFF0005000000 2BFF000A000000", 1),
+        folded("a chain of folds",
+               "2B010001000000 13020001000100 3C030002000200 50040003000100 1B050004000300 1706000500",
+               "2B010001000000 2B020002000000 2B030004000000 2B040003000000 28050001 28060000", 5),
+        kept("a command that stays forgets dst", "2B010001000000 2B020000000000 27010001000200 13030001000100"),
+        kept("another command forgets dst", "2B010001000000 2D01000700 13030001000100"),
+        folded("other registers stay known",
+               "2B010001000000 2F02000700 4D07000100 13030001000100",
+               "2B010001000000 2F02000700 4D07000100 2B030002000000", 1),
+        folded("a load over a load",
+               "2B010001000000 2E010002000000 1E030001000100",
+               "2B010001000000 2E010002000000 2E030004000000", 1),
+        folded("known again behind a barrier",
+               "2B010001000000 0A0300 2B010002000000 13030001000100",
+               "2B010001000000 0A0300 2B010002000000 2B030004000000", 1),
+        kept("no cells", ""),
+    ]),
+    ("passes, images", [
+        good("the printed example",
+             "F0070003 2B010005 13020001000100 0C010200",
+             crystalfold=("F0070003 2B010005 2B02000A 0C010200", 1),
+             rewrite=("F0070003 2B010005 2B02000A 0C010200", 1)),
+        cleaned("Label 1, Jmp 1, Label 1",
+                "F0070003 0A0100 080100 0A0100",
+                "F0070002 0A0100 0A0100", 1),
+        cleaned("LoadI32 r1, LoadBool r1",
+                "F0070002 2B010005 28010001",
+                "F0070001 28010001", 1),
+        good("two LoadU32 r1", "F0070002 2E010005 2E010005"),
+        good("I32 2,147,483,647 + 1",
+             "F0070003 2B0100FFFFFF7F 2B020001 13030001000200",
+             crystalfold=("F0070003 2B0100FFFFFF7F 2B020001 2B030000000080", 1),
+             rewrite=("F0070003 2B0100FFFFFF7F 2B020001 2B030000000080", 1)),
+        good("I32 -2,147,483,648 / -1", "F0070003 2B010000000080 2B0200FFFFFFFF 27030001000200"),
+        good("QAnd T F",
+             "F0070003 2C010002 2C020001 3D030001000200",
+             crystalfold=("F0070003 2C010002 2C020001 2C030000", 1),
+             rewrite=("F0070003 2C010002 2C020001 2C030000", 1)),
+        good("x + 0.0", "F0070002 29020000 11030001000200"),
+        good("folded loads of one register stay",
+             "F0070003 2B010005 13020001000100 13020001000100",
+             crystalfold=("F0070003 2B010005 2B02000A 2B02000A", 2),
+             rewrite=("F0070003 2B010005 2B02000A 2B02000A", 2)),
+        good("Jmp at a function's end", "F0070002 0A0100 080100"),
+        good("register 255",
+             "F0070002 2BFF0007 3CFF00FF00FF00",
+             crystalfold=("F0070002 2BFF0007 2BFF0031", 1),
+             rewrite=("F0070002 2BFF0007 2BFF0031", 1)),
+        good("no bytes", ""),
+        good("no cells", "F0070000"),
+        cleaned("events of a removed StoreVar",
+                "F0070004000200 2B010005 0C 4D0500010001070000000108 0A0300 000107 0100000000000108",
+                "F0070003 2B010005 0C 0A0300", 1),
+        cleaned("events kept behind fewer cells",
+                "F0070003000300 2B010005 2B010006 320100020003000105 0100000000000105 00 010000000000010500000002",
+                "F0070002000300 2B010006 320100020003000105 0100000000000105 00 010000000000010500000002", 1),
+        good("a load removed, the next one folded",
+             "F0070003 2B010005 28010001 1702000100",
+             cleanup=("F0070002 28010001 1702000100", 1),
+             crystalfold=("F0070003 2B010005 28010001 28020000", 1),
+             rewrite=("F0070002 28010001 28020000", 2)),
+        good("a removed label between folds",
+             "F0070005 2B010005 13020001000100 0A0100 0A0100 13030002000200",
+             cleanup=("F0070004 2B010005 13020001000100 0A0100 13030002000200", 1),
+             crystalfold=("F0070005 2B010005 2B02000A 0A0100 0A0100 13030002000200", 1),
+             rewrite=("F0070004 2B010005 2B02000A 0A0100 13030002000200", 2)),
+        good("the second function moves up",
+             "F0070003 0A0100 0A0100 0C F0080003 2B010005 13020001000100 0C010200",
+             cleanup=("F0070002 0A0100 0C F0080003 2B010005 13020001000100 0C010200", 1),
+             crystalfold=("F0070003 0A0100 0A0100 0C F0080003 2B010005 2B02000A 0C010200", 1),
+             rewrite=("F0070002 0A0100 0C F0080003 2B010005 2B02000A 0C010200", 2)),
+        good("registers unknown in the next function", "F0070001 2B010005 F0080001 13020001000100"),
+        cleaned("one site in two functions",
+                "F0070002000100 0C 320100020003000105 0100000000000105 F0000000 F0080001000100 320100020003000105 0100000000000105",
+                "F0070001 0C F0000000 F0080001000100 320100020003000105 0100000000000105", 1),
+    ]),
+    ("passes, refusals", [
+        refused("1 byte", 1, 1, 0, 0),
+        refused("15 bytes", 15, 1, 0, 0),
+        refused("17 bytes", 17, 1, 0, 0),
+        refused("65,535 bytes", 65535, 1, 0, 0),
+        refused("no F0", "00", 2, 0, 0),
+        refused("an instruction past the end", "F0070001", 2, 0, 0),
+        refused("an event past the end", "F0070000000100", 2, 0, 0),
+        refused("no command", "F0070001 00", 3, 0, 1),
+        refused("command 52", "F0070001 52", 3, 0, 1),
+        refused("event kind 2", "F0070000000100 02", 3, 0, 1),
+        refused("a spare byte of a head", "F007000000000001", 4, 0, 0),
+        refused("register 256", "F0070001 2B0001", 4, 0, 1),
+        refused("an absent value not zero", "F0070001 0C0001", 4, 0, 1),
+        refused("a spare byte of an event", "F0070000000100 000000000000000000000000000000FF", 4, 0, 1),
+        refused("11", "F0070002 4D000000000109 4D000000000109", 11, 0, 9),
+        refused("12", "F0070000000100 010109", 12, 0, 9),
+        refused("12, the largest site", "F0070000000100 0101FFFFFFFF", 12, 0, 4294967295),
+        refused("13", "F0070000000200 000109 000109", 13, 0, 9),
+        refused("14, no event", "F0070001 4D000000000109", 14, 0, 0),
+        refused("14, no command", "F0070000000100 000109", 14, 0, 0),
+        refused("21", "F0070002 320000000000000105 320000000000000105", 21, 0, 5),
+        refused("22", "F0070000000100 0000000000000105", 22, 0, 5),
+        refused("23", "F0070000000100 01", 23, 0, 0),
+        refused("24", "F0070001 320000000000000105", 24, 0, 5),
+        refused("25", "F0070001000200 4D0000000000000000000105 0100000000000105 0100000000000105", 25, 0, 5),
+        refused("26", "F0070000000100 0100000000000105", 26, 0, 5),
+    ]),
     # behind a function that both passes change
-    ("2 behind", "F0070003 2B010005 2B010006 13020001000100 00", (2, 1, 4)),
-    ("3 behind", "F0070003 2B010005 2B010006 13020001000100 F0080001 FF", (3, 1, 5)),
-    ("4 behind", "F0070003 2B010005 2B010006 13020001000100 F0080001 28010002", (4, 1, 5)),
-    ("14 behind", "F0070003 2B010005 2B010006 13020001000100 F0080001 4D000000000109", (14, 1, 0)),
-    ("24 behind", "F0070003 2B010005 2B010006 13020001000100 F0080001 320000000000000105", (24, 1, 5)),
+    ("passes, refusals behind a function", [
+        refused("2 behind", "F0070003 2B010005 2B010006 13020001000100 00", 2, 1, 4),
+        refused("3 behind", "F0070003 2B010005 2B010006 13020001000100 F0080001 FF", 3, 1, 5),
+        refused("4 behind", "F0070003 2B010005 2B010006 13020001000100 F0080001 28010002", 4, 1, 5),
+        refused("14 behind", "F0070003 2B010005 2B010006 13020001000100 F0080001 4D000000000109", 14, 1, 0),
+        refused("24 behind", "F0070003 2B010005 2B010006 13020001000100 F0080001 320000000000000105", 24, 1, 5),
+    ]),
+    ("passes, limits", [
+        good("1,024 events, each with its number", "F0070000000004 00*1024@11"),
+        # a load and 2,045 additions, each of which is folded, behind 2,048 loads of one register
+        good("65,536 bytes",
+             "F00700000800 2B0100*2048@3 F00800FE07 2B010001 13020001000100*2045",
+             cleanup=("F0070001 2B0100FF07 F00800FE07 2B010001 13020001000100*2045", 2047),
+             crystalfold=("F00700000800 2B0100*2048@3 F00800FE07 2B010001 2B020002*2045", 2045),
+             rewrite=("F0070001 2B0100FF07 F00800FE07 2B010001 2B020002*2045", 4092)),
+        good("4,096 functions", "F0*4096@1"),
+    ]),
+    # a head whose counts pass a limit, before zeros; 4,097 functions with no cells
+    ("passes, past the limits", [
+        refused("2,049 instructions", "F00700010800 00*2049", 2, 0, 0),
+        refused("1,025 events", "F0070000000104 00*1025", 2, 0, 0),
+        refused("65,535 instructions", "F00700FFFF 00*4095", 2, 0, 0),
+        refused("65,552 bytes", "F0*4096@1 F0", 1, 0, 0),
+    ]),
 ]
 
 
-def image(text):
-    if isinstance(text, int):
-        return bytes(text)
-    return b"".join(bytes.fromhex(cell).ljust(16, b"\0") for cell in text.split())
+def runs(data):
+    """Bytes as a length and runs: how often, the place of the number, the cell. A number is so many zeros."""
+    if isinstance(data, int):
+        return data, [(-(-data // 16), 0, bytes(16))]
+    if isinstance(data, bytes):
+        return len(data), [(1, 0, data[i:i + 16].ljust(16, b"\0")) for i in range(0, len(data), 16)]
+    listed = []
+    for word in data.split():
+        cell, _, how = word.partition("*")
+        count, _, place = how.partition("@")
+        listed.append((int(count or 1), int(place or 0), bytes.fromhex(cell).ljust(16, b"\0")))
+    return 16 * sum(count for count, _, _ in listed), listed
 
 
-def cases():
-    """Operation, image, answer: output and count, or refusal."""
-    for name, sent, *returned in GOOD:
-        for operation, answer in zip((CLEANUP, CRYSTALFOLD, REWRITE), returned):
-            output, count = answer or (sent, 0)
-            yield name, operation, image(sent), (image(output), count)
-    for name, sent, refusal in REFUSED:
-        for operation in (CLEANUP, CRYSTALFOLD, REWRITE):
-            yield name, operation, image(sent), refusal
+def record(kind, refusal=(0, 0, 0), room=0, length=0, rewrites=0, listed=()):
+    head = struct.pack("<BBHIIIIBBH", kind, *refusal, room, length, rewrites, rewrites > 0, 0, len(listed))
+    return head + b"".join(struct.pack("<HH", count, place) + cell for count, place, cell in listed)
 
 
-def record(operation, sent, answer):
-    start = struct.pack("<BH", operation, len(sent)) + sent
+def bytes_record(kind, data):
+    length, listed = runs(data)
+    return record(kind, length=length, listed=listed)
+
+
+def calls(operation, image, answer):
+    """An operation's calls on an image: a check is lent nothing; the others as much as the image, a byte and a cell more, and a byte less."""
+    n = runs(image)[0]
+    rooms = [0] if operation in (IMAGE_CHECK, SITE_CHECK) else [n, n + 1, n + 16]
     if len(answer) == 2:
-        output, count = answer
-        return start + struct.pack("<BHIB", 0, len(output), count, count > 0) + output
-    return start + struct.pack("<BBHI", 1, *answer)
+        output, rewrites = answer
+        length = runs(output)[0]
+        yield bytes_record(OUTPUT, output)
+        yield from (record(operation, room=room, length=length, rewrites=rewrites) for room in rooms)
+    else:
+        yield from (record(operation, refusal=answer, room=room) for room in rooms)
+    # "refuse 1; then 5, a lent output shorter than the image"
+    if n and len(rooms) > 1:
+        yield record(operation, refusal=(1 if answer[0] == 1 else 5, 0, 0), room=n - 1)
 
 
-def counts(data):
-    """What the program counts in a file of cases."""
-    kinds, at = collections.Counter(), 2
-    for _ in range(struct.unpack_from("<H", data)[0]):
+def records(groups):
+    """A file of cases, and the lines that the program writes of it."""
+    data, lines = [], []
+    for group, rows in groups:
+        data.append(bytes_record(GROUP, group.encode()))
+        answers = 0
+        for row in rows:
+            data += [bytes_record(NAME, row.name.encode()), bytes_record(IMAGE, row.image)]
+            for operation, answer in row.answers.items():
+                made = list(calls(operation, row.image, answer))
+                answers += sum(head[0] == operation for head in made)
+                data += made
+        lines.append("%s: %d images, %d answers passed\n" % (group, len(rows), answers))
+    return b"".join(data), lines
+
+
+def sampled():
+    """The original's answers in groups, by operation or refusal; both checks answer by them too."""
+    with open(SAMPLE, "rb") as file:
+        data = file.read().split(b"\n", 1)[1]
+    groups, at = collections.defaultdict(list), 2
+    for number in range(struct.unpack_from("<H", data)[0]):
         operation, length = struct.unpack_from("<BH", data, at)
-        at += 3 + length
+        image, at = data[at + 3:at + 3 + length], at + 3 + length
         if data[at] == 0:
-            kinds[operation] += 1
-            at += 8 + struct.unpack_from("<H", data, at + 1)[0]
+            length, rewrites, changed = struct.unpack_from("<HIB", data, at + 1)
+            assert changed == (rewrites > 0)
+            answer, sites, at = (data[at + 8:at + 8 + length], rewrites), ("", 0), at + 8 + length
+            group = ("the whole rewrite", "cleanup", "CrystalFold")[operation]
         else:
-            kinds[2 + data[at + 1]] += 1
-            at += 8
+            answer = sites = struct.unpack_from("<BHI", data, at + 1)
+            assert 11 <= answer[0]
+            group, at = "refusal %d" % answer[0], at + 8
+        operation = (REWRITE, CLEANUP, CRYSTALFOLD)[operation]
+        groups[group].append(Row("case %d" % number, image, {IMAGE_CHECK: ("", 0), SITE_CHECK: sites, operation: answer}))
     assert at == len(data)
-    return kinds
-
-
-def lines(file, data):
-    kinds = counts(data)
-    for kind, name in enumerate(("the whole rewrite", "cleanup", "CrystalFold")):
-        yield "%s, %s: %d passed\n" % (file, name, kinds[kind])
-    for number in range(1, 27):
-        if kinds[2 + number]:
-            yield "%s, refusal %d: %d passed\n" % (file, number, kinds[2 + number])
+    return [("sample, " + group, groups[group]) for group in sorted(groups, key=str.upper)]
 
 
 def main():
-    listed = list(cases())
-    data = struct.pack("<H", len(listed)) + b"".join(record(*case[1:]) for case in listed)
-    with open(os.path.join(CASES, "data", "images.bin"), "wb") as out:
-        out.write(data)
-    with open(SAMPLE, "rb") as sample:
-        replayed = sample.read().split(b"\n", 1)[1]
-    with open(os.path.join(CASES, "data", "sample.bin"), "wb") as out:
-        out.write(replayed)
-    limits = ["passes, limits: 5 passed\n", "passes, past the limits: 4 passed\n"]
+    if sys.argv[1:]:
+        print(__doc__.strip())
+        sys.exit(0 if "--help" in sys.argv[1:] else 2)
+    lines = []
+    for name, groups in (("images.bin", GROUPS), ("sample.bin", sampled())):
+        data, written = records(groups)
+        with open(os.path.join(CASES, "data", name), "wb") as out:
+            out.write(data)
+        lines += written
     with open(os.path.join(CASES, "stdout"), "w") as out:
-        out.writelines([*lines("images.bin", data), *limits, *lines("sample.bin", replayed)])
-    for number, (name, *_) in enumerate(listed):
-        print("case %05d %s" % (number, name))
+        out.writelines(lines)
 
 
 if __name__ == "__main__":

@@ -8,6 +8,7 @@ The seed is fixed: two runs write the same files.
 """
 import os
 import random
+import sys
 from fractions import Fraction
 
 ROOT = os.path.join(os.path.dirname(os.path.abspath(__file__)), "..", "..")
@@ -384,6 +385,9 @@ def write(path, text):
 
 
 def main():
+    if sys.argv[1:]:
+        print(__doc__.strip())
+        sys.exit(0 if "--help" in sys.argv[1:] else 2)
     rng = random.Random(754)
     groups = []  # the leaf's number, the group's name, and its rows
 
@@ -428,7 +432,7 @@ def main():
     rows = [(a, b, 1, 0) for a in range(len(KINDS)) for b in range(len(KINDS)) if a != b or a == 0]
     group("eq", 0, "const eq, two kinds", rows)
 
-    text = [line("# %02X %s" % (leaf, name)) + "".join(row(*r) for r in rows) for leaf, name, rows in groups]
+    text = [line("# %02X %02X %s" % (leaf, len(name), name)) + "".join(row(*r) for r in rows) for leaf, name, rows in groups]
     write("data/vectors.txt", "".join(text))
     write("stdout", "".join("%s: %d passed\n" % (name, len(rows)) for _, name, rows in groups))
     print("%d vectors in %d groups" % (sum(len(rows) for _, _, rows in groups), len(groups)))

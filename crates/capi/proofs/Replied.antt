@@ -12,11 +12,11 @@ use Rattle.cells.specs.declared.refusal.Refusal.the-variants.{Length, Head, Unk
 use Rattle.cells.specs.declared.refusal.Checked.{Checked}
 use Rattle.cells.specs.declared.refusal.Checked.the-variants.{Good, Refused as RefusedBy}
 use Rattle.image.specs.Image.{GoodImage}
-use Rattle.image.specs.Sites.{SitesPass}
+use Rattle.image.specs.SiteCheck.{SitesPass}
 use Rattle.image.specs.Operations.{ImageChecked, SiteChecked}
 use Rattle.passes.specs.Contracts.{isWritten, PassDone, RewriteDone}
 use Rattle.passes.specs.declared.Pass.{Pass}
-use Rattle.passes.specs.declared.Pass.the-variants.{Default}
+use Rattle.crystalfold.specs.declared.rules.RuleSet.{RuleSet}
 use Rattle.passes.specs.declared.Rewrite.{Rewrite}
 use Rattle.passes.specs.declared.Rewrite.the-variants.{Written, Refused}
 use Rattle.capi.specs.Replies.{checkReply, rewriteReply}
@@ -72,9 +72,9 @@ pass-replied p s before after r q h e = record {
   done = rw (sym (h .answer)) h;
 }
 
-pub rewrite-replied : (s before after : List ℕ) (r : Rewrite) (q : Reply) → RewriteDone s before after r → q ≡ rewriteReply r
-    → RewriteReplied s before after (q .number) (q .first) (q .second)
-rewrite-replied s before after r q h e = record {
+pub rewrite-replied : (k : RuleSet) (s before after : List ℕ) (r : Rewrite) (q : Reply) → RewriteDone k s before after r → q ≡ rewriteReply r
+    → RewriteReplied k s before after (q .number) (q .first) (q .second)
+rewrite-replied k s before after r q h e = record {
   reply = e ∙ ap rewriteReply (h .done .answer);
   accepted = via e (rewrite-zero r) (h .done .accepted);
   done = rw (sym (h .done .answer)) h;

@@ -3,6 +3,7 @@ use cells::refusal;
 use cells::refusal::Checked;
 use passes::Rewrite;
 ghost use mathlib.Core.Path.{_≡_};
+ghost use Rattle.crystalfold.specs.declared.rules.RuleSet.the-variants.{Default};
 ghost use Rattle.passes.specs.declared.Pass.the-variants.{Cleanup, CrystalFold};
 ghost use Rattle.capi.specs.Replies.{refusalReply, checkReply, rewriteReply};
 ghost use Rattle.capi.specs.Contracts.{ImageReplied, SitesReplied, PassReplied, RewriteReplied};
@@ -68,7 +69,7 @@ pub extern "C" fn matchdesk_crystalfold(
     first: &mut usize,
     second: &mut usize,
 ) -> usize
-    ensures { λ r. ⌜ PassReplied CrystalFold (now (image .entry)) (now (out .entry)) (now (out .exit)) r (now (first .exit)) (now (second .exit)) ⌝ }
+    ensures { λ r. ⌜ PassReplied (CrystalFold Default) (now (image .entry)) (now (out .entry)) (now (out .exit)) r (now (first .exit)) (now (second .exit)) ⌝ }
 {
     let r = reply_of_rewrite(passes::crystalfold(image, out));
     *first = r.first;
@@ -84,7 +85,7 @@ pub extern "C" fn matchdesk_rewrite(
     first: &mut usize,
     second: &mut usize,
 ) -> usize
-    ensures { λ r. ⌜ RewriteReplied (now (image .entry)) (now (out .entry)) (now (out .exit)) r (now (first .exit)) (now (second .exit)) ⌝ }
+    ensures { λ r. ⌜ RewriteReplied Default (now (image .entry)) (now (out .entry)) (now (out .exit)) r (now (first .exit)) (now (second .exit)) ⌝ }
 {
     let r = reply_of_rewrite(passes::run_default_opt_passes(image, out));
     *first = r.first;

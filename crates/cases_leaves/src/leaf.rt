@@ -1,4 +1,7 @@
 // A leaf by its number, at two operands, each given by its bits, a quad and a bool by their numbers.
+ghost use mathlib.Core.Path.{_≡_};
+ghost use Prim.Native.Nat.{_%_};
+ghost use Rattle.cases_leaves.specs.Leaves.{u32Of, i32Of, quadAt, constantOf, ofVerdict, f64Bits, i32Bits, u32Bits, fxBits, ofQuad, ofNumber, ofBool, f64Leaf, i32Leaf, u32Leaf, fxLeaf, quadLeaf, boolLeaf, equalityLeaf, answerOf};
 use leaves::compare::bool_and;
 use leaves::compare::bool_not;
 use leaves::compare::bool_or;
@@ -10,14 +13,12 @@ use leaves::constant::ConstVal;
 use leaves::constant::const_eq;
 use leaves::fixed;
 use leaves::float;
-use leaves::float::F64Result;
 use leaves::quad;
 use leaves::quad::Quad;
 use leaves::quad::QuadResult;
 use leaves::signed;
-use leaves::signed::I32Result;
 use leaves::unsigned;
-use leaves::unsigned::U32Result;
+use leaves::verdict::Verdict;
 
 pub enum Answer {
     Value(u64),
@@ -26,7 +27,9 @@ pub enum Answer {
 }
 
 // The first digit of a leaf's number is its kind, the second the leaf.
-pub fn compute(leaf: u64, a: u64, b: u64) -> Answer {
+pub fn compute(leaf: u64, a: u64, b: u64) -> Answer
+    ensures { λ r. ⌜ r ≡ answerOf leaf a b ⌝ }
+{
     match leaf / 16 {
         1 => f64_leaf(leaf % 16, float::of_bits(a), float::of_bits(b)),
         2 => i32_leaf(leaf % 16, i32_of(a), i32_of(b)),
@@ -40,7 +43,9 @@ pub fn compute(leaf: u64, a: u64, b: u64) -> Answer {
 }
 
 // 0 reads a value and writes it back.
-fn f64_leaf(leaf: u64, a: f64, b: f64) -> Answer {
+fn f64_leaf(leaf: u64, a: f64, b: f64) -> Answer
+    ensures { λ r. ⌜ r ≡ f64Leaf leaf a b ⌝ }
+{
     match leaf {
         0 => Answer::Value(float::to_bits(a)),
         1 => of_f64(float::add_f64(a, b)),
@@ -51,7 +56,9 @@ fn f64_leaf(leaf: u64, a: f64, b: f64) -> Answer {
     }
 }
 
-fn i32_leaf(leaf: u64, a: i32, b: i32) -> Answer {
+fn i32_leaf(leaf: u64, a: i32, b: i32) -> Answer
+    ensures { λ r. ⌜ r ≡ i32Leaf leaf a b ⌝ }
+{
     match leaf {
         1 => of_i32(signed::add_i32(a, b)),
         2 => of_i32(signed::sub_i32(a, b)),
@@ -64,7 +71,9 @@ fn i32_leaf(leaf: u64, a: i32, b: i32) -> Answer {
     }
 }
 
-fn u32_leaf(leaf: u64, a: u32, b: u32) -> Answer {
+fn u32_leaf(leaf: u64, a: u32, b: u32) -> Answer
+    ensures { λ r. ⌜ r ≡ u32Leaf leaf a b ⌝ }
+{
     match leaf {
         1 => of_u32(unsigned::add_u32(a, b)),
         2 => of_u32(unsigned::sub_u32(a, b)),
@@ -77,18 +86,22 @@ fn u32_leaf(leaf: u64, a: u32, b: u32) -> Answer {
     }
 }
 
-fn fx_leaf(leaf: u64, a: i32, b: i32) -> Answer {
+fn fx_leaf(leaf: u64, a: i32, b: i32) -> Answer
+    ensures { λ r. ⌜ r ≡ fxLeaf leaf a b ⌝ }
+{
     match leaf {
-        1 => of_i32(fixed::add_fx(a, b)),
-        2 => of_i32(fixed::sub_fx(a, b)),
-        3 => of_i32(fixed::mul_fx(a, b)),
-        4 => of_i32(fixed::div_fx(a, b)),
+        1 => of_fx(fixed::add_fx(a, b)),
+        2 => of_fx(fixed::sub_fx(a, b)),
+        3 => of_fx(fixed::mul_fx(a, b)),
+        4 => of_fx(fixed::div_fx(a, b)),
         _ => Answer::NoLeaf,
     }
 }
 
 // 0 reads a quad from a number. QNot has one operand, the left.
-fn quad_leaf(leaf: u64, a: u64, b: u64) -> Answer {
+fn quad_leaf(leaf: u64, a: u64, b: u64) -> Answer
+    ensures { λ r. ⌜ r ≡ quadLeaf leaf a b ⌝ }
+{
     match leaf {
         0 => of_number(quad::quad_of(u8_of(a))),
         1 => of_quad(quad::qand(quad_of(a), quad_of(b))),
@@ -100,7 +113,9 @@ fn quad_leaf(leaf: u64, a: u64, b: u64) -> Answer {
 }
 
 // BoolNot has one operand, the left.
-fn bool_leaf(leaf: u64, a: bool, b: bool) -> Answer {
+fn bool_leaf(leaf: u64, a: bool, b: bool) -> Answer
+    ensures { λ r. ⌜ r ≡ boolLeaf leaf a b ⌝ }
+{
     match leaf {
         1 => of_bool(bool_and(a, b)),
         2 => of_bool(bool_or(a, b)),
@@ -110,30 +125,42 @@ fn bool_leaf(leaf: u64, a: bool, b: bool) -> Answer {
 }
 
 // const_eq of two constants of one kind, which the leaf numbers; or, as 0, of the zeros of two kinds.
-fn equality(kind: u64, a: u64, b: u64) -> Answer {
-    match kind {
-        0 => of_bool(const_eq(constant(a, 0), constant(b, 0))),
-        1..=6 => of_bool(const_eq(constant(kind, a), constant(kind, b))),
-        _ => Answer::NoLeaf,
+fn equality(kind: u64, a: u64, b: u64) -> Answer
+    ensures { λ r. ⌜ r ≡ equalityLeaf kind a b ⌝ }
+{
+    if kind == 0 {
+        return of_bool(const_eq(constant(a, 0), constant(b, 0)));
     }
+    if 6 < kind {
+        return Answer::NoLeaf;
+    }
+    of_bool(const_eq(constant(kind, a), constant(kind, b)))
 }
 
 // ---- operands
 
-fn u8_of(n: u64) -> u8 {
+fn u8_of(n: u64) -> u8
+    ensures { λ r. ⌜ r ≡ n % 256 ⌝ }
+{
     (n % 256) as u8
 }
 
-fn u32_of(n: u64) -> u32 {
+fn u32_of(n: u64) -> u32
+    ensures { λ r. ⌜ r ≡ u32Of n ⌝ }
+{
     (n % 4294967296) as u32
 }
 
-fn i32_of(n: u64) -> i32 {
+fn i32_of(n: u64) -> i32
+    ensures { λ r. ⌜ r ≡ i32Of n ⌝ }
+{
     signed::of_bits(u32_of(n))
 }
 
 // N where the number is no quad's.
-fn quad_of(n: u64) -> Quad {
+fn quad_of(n: u64) -> Quad
+    ensures { λ r. ⌜ r ≡ quadAt n ⌝ }
+{
     let QuadResult::Value(q) = quad::quad_of(u8_of(n)) else {
         return Quad::N;
     };
@@ -141,7 +168,9 @@ fn quad_of(n: u64) -> Quad {
 }
 
 // The constant of a kind, numbered as ConstVal's cases are.
-fn constant(kind: u64, bits: u64) -> ConstVal {
+fn constant(kind: u64, bits: u64) -> ConstVal
+    ensures { λ r. ⌜ r ≡ constantOf kind bits ⌝ }
+{
     match kind {
         1 => ConstVal::Quad(quad_of(bits)),
         2 => ConstVal::Bool(bits == 1),
@@ -153,41 +182,74 @@ fn constant(kind: u64, bits: u64) -> ConstVal {
     }
 }
 
-// ---- answers
+// ---- answers; a value of another kind is no leaf's
 
-fn of_f64(r: F64Result) -> Answer {
-    let F64Result::Value(x) = r else {
+fn of_f64(v: Verdict) -> Answer
+    ensures { λ t. ⌜ t ≡ ofVerdict f64Bits v ⌝ }
+{
+    let Verdict::Value(x) = v else {
         return Answer::Absent;
     };
-    Answer::Value(float::to_bits(x))
+    let ConstVal::F64(a) = x else {
+        return Answer::NoLeaf;
+    };
+    Answer::Value(float::to_bits(a))
 }
 
-fn of_i32(r: I32Result) -> Answer {
-    let I32Result::Value(x) = r else {
+fn of_i32(v: Verdict) -> Answer
+    ensures { λ t. ⌜ t ≡ ofVerdict i32Bits v ⌝ }
+{
+    let Verdict::Value(x) = v else {
         return Answer::Absent;
     };
-    Answer::Value(signed::bits_of(x) as u64)
+    let ConstVal::I32(a) = x else {
+        return Answer::NoLeaf;
+    };
+    Answer::Value(signed::bits_of(a) as u64)
 }
 
-fn of_u32(r: U32Result) -> Answer {
-    let U32Result::Value(x) = r else {
+fn of_u32(v: Verdict) -> Answer
+    ensures { λ t. ⌜ t ≡ ofVerdict u32Bits v ⌝ }
+{
+    let Verdict::Value(x) = v else {
         return Answer::Absent;
     };
-    Answer::Value(x as u64)
+    let ConstVal::U32(a) = x else {
+        return Answer::NoLeaf;
+    };
+    Answer::Value(a as u64)
 }
 
-fn of_number(r: QuadResult) -> Answer {
+fn of_fx(v: Verdict) -> Answer
+    ensures { λ t. ⌜ t ≡ ofVerdict fxBits v ⌝ }
+{
+    let Verdict::Value(x) = v else {
+        return Answer::Absent;
+    };
+    let ConstVal::Fx(a) = x else {
+        return Answer::NoLeaf;
+    };
+    Answer::Value(signed::bits_of(a) as u64)
+}
+
+fn of_number(r: QuadResult) -> Answer
+    ensures { λ t. ⌜ t ≡ ofNumber r ⌝ }
+{
     let QuadResult::Value(q) = r else {
         return Answer::Absent;
     };
     of_quad(q)
 }
 
-fn of_quad(q: Quad) -> Answer {
+fn of_quad(q: Quad) -> Answer
+    ensures { λ r. ⌜ r ≡ ofQuad q ⌝ }
+{
     Answer::Value(quad::number_of(q) as u64)
 }
 
-fn of_bool(b: bool) -> Answer {
+fn of_bool(b: bool) -> Answer
+    ensures { λ r. ⌜ r ≡ ofBool b ⌝ }
+{
     if b {
         return Answer::Value(1);
     }

@@ -6,7 +6,7 @@ mod vectors;
 fn main() {
     let fd = os::open_read(b"vectors.txt");
     if fd < 0 {
-        casebook::lines::text(b"wrong: vectors.txt is not to be read\n");
+        casebook::text(b"wrong: vectors.txt is not to be read\n");
         return;
     }
     vectors::run(fd);

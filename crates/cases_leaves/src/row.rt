@@ -1,120 +1,96 @@
 // A row of vectors: the operands and the result in 16 hexadecimal digits each, or `none` where there is no result.
-ghost use Prim.Native.Nat.{_≤_};
+ghost use mathlib.Core.Path.{_≡_};
+ghost use mathlib.Core.Logic.{_↔_};
+ghost use mathlib.Core.Bool.{true, false};
+ghost use Prim.Native.Nat.{_+_, _≤_};
+ghost use lib.ListN.{getD};
+ghost use Rattle.cases_leaves.specs.Rows.{kindOf, bitsIn, digitOf, numberIn, isSeparated, saysNone, resultIn, rowIn, Holds};
 use crate::leaf::Answer;
 use crate::leaf::compute;
-use casebook::lines;
 
+// A number in hexadecimal.
 pub enum Field {
     Value(u64),
     Malformed,
 }
 
-// 1 if the leaf gives what the row says, and else 0, with a line that names the vector.
-pub fn check(name: &[u8], leaf: u64, line: &[u8]) -> u64
-    ensures { λ r. ⌜ r ≤ 1 ⌝ }
+// The operands and the result.
+pub enum Row {
+    Vector(u64, u64, Answer),
+    Malformed,
+}
+
+// Whether the leaf gives what the row says; if not, with a line that names the vector.
+pub fn holds(group: &[u8], leaf: u64, line: &[u8]) -> bool
+    ensures { λ r. ⌜ (r ≡ true) ↔ Holds leaf (now (line .entry)) ⌝ }
+{
+    let row = read(line);
+    let Row::Vector(a, b, expected) = row else {
+        return malformed(group, line);
+    };
+    let got = compute(leaf, a, b);
+    let held = same(got, expected);
+    if !held {
+        wrong(group, a, b, expected, got);
+    }
+    held
+}
+
+fn read(line: &[u8]) -> Row
+    ensures { λ r. ⌜ r ≡ rowIn (now (line .entry)) ⌝ }
 {
     let left = number(line, 0, 16);
-    let right = number(line, 17, 33);
     let Field::Value(a) = left else {
-        return malformed(name, line);
+        return Row::Malformed;
     };
+    let right = number(line, 17, 16);
     let Field::Value(b) = right else {
-        return malformed(name, line);
+        return Row::Malformed;
     };
-    if !separated(line) {
-        return malformed(name, line);
+    if separated(line) {
+        return read_result(line, a, b);
     }
-    if is_none(line) {
-        return absent(name, a, b, compute(leaf, a, b));
+    Row::Malformed
+}
+
+fn read_result(line: &[u8], a: u64, b: u64) -> Row
+    ensures { λ r. ⌜ r ≡ resultIn (now (line .entry)) a b ⌝ }
+{
+    if says_none(line) {
+        return Row::Vector(a, b, Answer::Absent);
     }
-    let result = number(line, 34, 50);
-    let Field::Value(expected) = result else {
-        return malformed(name, line);
+    let result = number(line, 34, 16);
+    let Field::Value(x) = result else {
+        return Row::Malformed;
     };
-    present(name, a, b, expected, compute(leaf, a, b))
+    Row::Vector(a, b, Answer::Value(x))
 }
 
 // The fields of a row stand between blanks, and its line ends.
-fn separated(line: &[u8]) -> bool {
-    (byte(line, 16) == b' ') & (byte(line, 33) == b' ') & (byte(line, 50) == b'\n')
-}
-
-fn is_none(line: &[u8]) -> bool {
-    (byte(line, 34) == b'n')
-        & (byte(line, 35) == b'o')
-        & (byte(line, 36) == b'n')
-        & (byte(line, 37) == b'e')
-        & (byte(line, 38) == b' ')
-}
-
-fn present(name: &[u8], a: u64, b: u64, expected: u64, answer: Answer) -> u64
-    ensures { λ r. ⌜ r ≤ 1 ⌝ }
+fn separated(line: &[u8]) -> bool
+    ensures { λ r. ⌜ r ≡ isSeparated (now (line .entry)) ⌝ }
 {
-    if let Answer::Value(got) = answer {
-        if got == expected {
-            return 1;
-        }
-    }
-    vector(name, a, b);
-    lines::hex(expected, 16);
-    got_line(answer);
-    0
+    (byte(line, 16) == 32) & (byte(line, 33) == 32) & (byte(line, 50) == 10)
 }
 
-fn absent(name: &[u8], a: u64, b: u64, answer: Answer) -> u64
-    ensures { λ r. ⌜ r ≤ 1 ⌝ }
+fn says_none(line: &[u8]) -> bool
+    ensures { λ r. ⌜ r ≡ saysNone (now (line .entry)) ⌝ }
 {
-    if let Answer::Absent = answer {
-        return 1;
-    }
-    vector(name, a, b);
-    lines::text(b"none");
-    got_line(answer);
-    0
+    (byte(line, 34) == 110)
+        & (byte(line, 35) == 111)
+        & (byte(line, 36) == 110)
+        & (byte(line, 37) == 101)
 }
 
-fn vector(name: &[u8], a: u64, b: u64) {
-    lines::text(b"wrong: ");
-    lines::text(name);
-    lines::text(b" ");
-    lines::hex(a, 16);
-    lines::text(b" ");
-    lines::hex(b, 16);
-    lines::text(b" expected ");
-}
-
-fn got_line(answer: Answer) {
-    lines::text(b" got ");
-    match answer {
-        Answer::Value(x) => {
-            lines::hex(x, 16);
-        }
-        Answer::Absent => {
-            lines::text(b"none");
-        }
-        Answer::NoLeaf => {
-            lines::text(b"no leaf");
-        }
-    }
-    lines::text(b"\n");
-}
-
-fn malformed(name: &[u8], line: &[u8]) -> u64
-    ensures { λ r. ⌜ r ≤ 1 ⌝ }
+// The number in so many hexadecimal digits from a position on.
+pub fn number(line: &[u8], at: usize, count: usize) -> Field
+    requires { ⌜ at + count ≤ 65536 ⌝ }
+    ensures { λ r. ⌜ r ≡ numberIn (now (line .entry)) at count 0 ⌝ }
 {
-    lines::text(b"wrong: ");
-    lines::text(name);
-    lines::text(b", a row is malformed: ");
-    lines::text(line);
-    0
-}
-
-// The number in the hexadecimal digits from a position up to another.
-pub fn number(line: &[u8], from: usize, to: usize) -> Field {
     let mut n: u64 = 0;
-    let mut i = from;
-    while i < to {
-        let d = digit(byte(line, i));
+    let mut i: usize = 0;
+    while i < count {
+        let d = digit(byte(line, at + i));
         if 15 < d {
             return Field::Malformed;
         }
@@ -124,17 +100,89 @@ pub fn number(line: &[u8], from: usize, to: usize) -> Field {
     Field::Value(n)
 }
 
-fn byte(line: &[u8], i: usize) -> u8 {
+fn byte(line: &[u8], i: usize) -> u8
+    ensures { λ r. ⌜ r ≡ getD (now (line .entry)) i 0 ⌝ }
+{
     if i < line.len() { line[i] } else { 0 }
 }
 
 // 16 where it is no digit.
 fn digit(c: u8) -> u64
-    ensures { λ r. ⌜ r ≤ 16 ⌝ }
+    ensures { λ r. ⌜ (r ≡ digitOf c) × (r ≤ 16) ⌝ }
 {
-    match c {
-        b'0'..=b'9' => (c - b'0') as u64,
-        b'A'..=b'F' => (c - b'A' + 10) as u64,
-        _ => 16,
+    if c < 48 {
+        return 16;
+    }
+    if c <= 57 {
+        return wide(c - 48);
+    }
+    if c < 65 {
+        return 16;
+    }
+    if c <= 70 {
+        return wide(c - 55);
+    }
+    16
+}
+
+fn wide(c: u8) -> u64
+    ensures { λ r. ⌜ r ≡ c ⌝ }
+{
+    c as u64
+}
+
+fn same(a: Answer, b: Answer) -> bool
+    ensures { λ r. ⌜ (r ≡ true) ↔ (a ≡ b) ⌝ }
+{
+    (kind_of(a) == kind_of(b)) & (bits_of(a) == bits_of(b))
+}
+
+fn kind_of(a: Answer) -> u64
+    ensures { λ r. ⌜ r ≡ kindOf a ⌝ }
+{
+    match a {
+        Answer::Value(_) => 0,
+        Answer::Absent => 1,
+        Answer::NoLeaf => 2,
+    }
+}
+
+fn bits_of(a: Answer) -> u64
+    ensures { λ r. ⌜ r ≡ bitsIn a ⌝ }
+{
+    match a {
+        Answer::Value(x) => x,
+        Answer::Absent => 0,
+        Answer::NoLeaf => 0,
+    }
+}
+
+fn malformed(group: &[u8], line: &[u8]) -> bool
+    ensures { λ r. ⌜ r ≡ false ⌝ }
+{
+    casebook::text(b"wrong: a row is malformed in ");
+    casebook::text(group);
+    casebook::text(line);
+    false
+}
+
+fn wrong(group: &[u8], a: u64, b: u64, expected: Answer, got: Answer) {
+    casebook::text(b"wrong: ");
+    casebook::hex(a, 16);
+    casebook::text(b" ");
+    casebook::hex(b, 16);
+    casebook::text(b" expected ");
+    show(expected);
+    casebook::text(b" got ");
+    show(got);
+    casebook::text(b" in ");
+    casebook::text(group);
+}
+
+fn show(answer: Answer) {
+    match answer {
+        Answer::Value(x) => casebook::hex(x, 16),
+        Answer::Absent => casebook::text(b"none"),
+        Answer::NoLeaf => casebook::text(b"no leaf"),
     }
 }

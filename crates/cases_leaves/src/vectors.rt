@@ -1,14 +1,20 @@
-// The file of vectors, line by line: a group's leaf and name, then its rows. Each line has 51 bytes.
-ghost use Prim.Native.Nat.{_≤_};
+// The file of vectors, line by line: a group's leaf and name, then its rows. Each line has 51 bytes. No contract can say what is read or
+// written.
+ghost use mathlib.Core.Path.{_≡_};
+ghost use mathlib.Core.Logic.{_↔_};
+ghost use mathlib.Core.Bool.{true};
+ghost use Rattle.cases_leaves.specs.Rows.{HoldsUnder};
 use crate::row;
-use casebook::lines;
+use crate::row::Field;
 
 const LINE: usize = 51;
 
-// In a group's line, where the leaf's two digits and the name stand.
+// In a group's line, where the two digits of the leaf stand, those of the name's length, and the name.
 const LEAF: usize = 2;
 
-const NAME: usize = 5;
+const LENGTH: usize = 5;
+
+const NAME: usize = 8;
 
 enum Step {
     Passed(u64),
@@ -44,7 +50,7 @@ fn read_line(fd: i32, group: &mut [u8; LINE], passed: u64) -> Step {
     }
     if n < LINE {
         end_group(group, passed);
-        lines::text(b"wrong: the last line of the vectors is short\n");
+        casebook::text(b"wrong: the last line of the vectors is short\n");
         return Step::End;
     }
     if line[0] == b'#' {
@@ -52,49 +58,33 @@ fn read_line(fd: i32, group: &mut [u8; LINE], passed: u64) -> Step {
         *group = line;
         return Step::Passed(0);
     }
-    Step::Passed(passed % 65536 + run_row(group, &line))
+    Step::Passed(casebook::count(passed, run_row(group, &line)))
 }
 
-// 1 if a row of the group passes, and else 0, with a line.
-fn run_row(group: &[u8], line: &[u8]) -> u64
-    ensures { λ r. ⌜ r ≤ 1 ⌝ }
+// Whether a row of the group holds; if not, with a line.
+fn run_row(group: &[u8], line: &[u8]) -> bool
+    ensures { λ r. ⌜ (r ≡ true) ↔ HoldsUnder (now (group .entry)) (now (line .entry)) ⌝ }
 {
-    let end = name_end(group);
-    let leaf = row::number(group, LEAF, LEAF + 2);
-    let row::Field::Value(n) = leaf else {
-        lines::text(b"wrong: a row of vectors in no group\n");
-        return 0;
+    let leaf = row::number(group, LEAF, 2);
+    let Field::Value(n) = leaf else {
+        casebook::text(b"wrong: a row of vectors in no group\n");
+        return false;
     };
-    if end < NAME {
-        return 0;
-    }
-    if group.len() < end {
-        return 0;
-    }
-    row::check(&group[NAME..end], n, line)
+    row::holds(group, n, line)
 }
 
 // The line of a group, if there was one.
 fn end_group(group: &[u8], passed: u64) {
-    let end = name_end(group);
-    if end <= NAME {
+    let length = row::number(group, LENGTH, 2);
+    let Field::Value(n) = length else {
         return;
-    }
+    };
+    let end = NAME + (n % 256) as usize;
     if group.len() < end {
         return;
     }
-    lines::passed(&group[NAME..end], passed);
-}
-
-// Where the blanks behind a group's name start.
-fn name_end(group: &[u8]) -> usize {
-    let mut end = NAME;
-    let mut i = NAME;
-    while i < group.len() {
-        if b' ' < group[i] {
-            end = i + 1;
-        }
-        i += 1;
-    }
-    end
+    casebook::text(&group[NAME..end]);
+    casebook::text(b": ");
+    casebook::decimal(passed);
+    casebook::text(b" passed\n");
 }

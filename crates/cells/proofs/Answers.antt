@@ -34,10 +34,6 @@ or-right (Refused x) b e = absurd (refused-good e)
 pub or-both : (a b : Checked) → a ≡ Good → b ≡ Good → orElse a b ≡ Good
 or-both a b e g = or-good b e ∙ g
 
--- what passes two checks passes two others that refuse no more
-pub or-passes : (a b c d : Checked) → (a ≡ Good → c ≡ Good) → (b ≡ Good → d ≡ Good) → orElse a b ≡ Good → orElse c d ≡ Good
-or-passes a b c d f g e = or-both c d (f (or-left a b e)) (g (or-right a b e))
-
 -- one check after another in the code: the first that refuses answers
 pub halts : {r a : Checked} {x : Refusal} (b : Checked) → r ≡ a → r ≡ Refused x → r ≡ orElse a b
 halts b e f = rw (← e) (rw f)
@@ -52,13 +48,6 @@ test-good false a x e = absurd (refused-good e)
 
 pub unless-good : (t : Bool) (x : Refusal) → unless t x ≡ Good → t ≡ true
 unless-good t x e = test-good t Good x e .0
-
--- a scan whose judge refuses no more passes too
-pub scan-same : (j k : List Cell → Cell → Checked) → ((es : List Cell) (c : Cell) → j es c ≡ Good → k es c ≡ Good)
-    → (es cs : List Cell) → scan j es cs ≡ Good → scan k es cs ≡ Good
-scan-same j k f es [] e = refl
-scan-same j k f es (c ∷ cs) e =
-    or-passes (j es c) (scan j (es ++ c ∷ []) cs) (k es c) (scan k (es ++ c ∷ []) cs) (f es c) (scan-same j k f (es ++ c ∷ []) cs) e
 
 -- a loop over the cells of a scan: at i, what is left says what the whole says
 module _ (judge : List Cell → Cell → Checked) (cs : List Cell) where

@@ -13,7 +13,7 @@ use borrow.Author.Tests.{lt-ltb, lt-leb, le-leb, ne-eqb, leb-true}
 use Rattle.cells.specs.Bytes.{byte, zeros}
 use Rattle.cells.specs.Cells.{Cell}
 use Rattle.cells.specs.Answers.{unless}
-use Rattle.cells.specs.Table.{eventRow, headRow}
+use Rattle.cells.specs.Table.{rows, eventRow, headRow}
 use Rattle.cells.specs.Check.{rowOk, isCommand, isEventKind, isHead, instructionCheck, eventCheck, headCheck, codeCount, eventCount, maxInstructions, maxEvents}
 use Rattle.cells.specs.declared.refusal.Refusal.{Refusal}
 use Rattle.cells.specs.declared.refusal.Refusal.the-variants.{Head, UnknownCommand, Operand}
@@ -71,8 +71,8 @@ module _ (p d : ℕ) (c : Cell) where
       head-past h k l = simp (f, le-leb _ _ h, le-leb _ _ k, lt-leb _ _ l)
 
       pub head-row : (b : Bool) → codeCount c ≤ maxInstructions → eventCount c ≤ maxEvents → codeCount c + eventCount c ≤ after
-          → b ≡ rowOk headRow c → unless b (Operand p d) ≡ headCheck p d after c
-      unfolding headCheck
+          → b ≡ zeros (drop 7 c) → unless b (Operand p d) ≡ headCheck p d after c
+      unfolding headCheck rows
       head-row b h k l e = simp (f, le-leb _ _ h, le-leb _ _ k, le-leb _ _ l, e)
 
 -- ---- what a good cell is, whatever its position

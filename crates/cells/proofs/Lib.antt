@@ -5,7 +5,10 @@ pub mod Every
 pub mod Facts
 pub mod Functions
 pub mod Lists
+pub mod Matches
 pub mod Over
 pub mod Rows
 pub mod Views
 pub mod GoodCells
+pub mod Spans
+pub mod Going

@@ -5,7 +5,7 @@ use Prim.Native.Nat.{ℕ, zero, suc, _+_, _-_, _≤_, _<_}
 use native.Mathlib.Omega.{arith}
 use native.Mathlib.Numerals.{add-one}
 use lib.ListN.{length, getD, set, take, drop, length-append, length-drop, drop-of-length-le}
-use lib.Seq.{take-length, take-append-seam, drop-append-seam, drop-append-add, drop-drop, drop-cons, set-append-seam, getD-append-add, getD-drop}
+use lib.Seq.{take-length, take-all, take-append-seam, drop-append-seam, drop-append-add, drop-drop, drop-cons, set-append-seam, getD-append-add, getD-drop}
 use Rattle.cells.specs.Cells.{over}
 
 module _ {A : Type 0} where
@@ -40,6 +40,23 @@ module _ {A : Type 0} where
   pub over-over : (xs zs ys : List A) → xs ++ over zs (drop (length xs) ys) ≡ over (xs ++ zs) ys
   unfolding over
   over-over xs zs ys = rw (drop-drop, length-append, append-assoc)
+
+  -- the same in the part `&mut out[a..]`
+  pub over-part : (xs zs ys out part : List A) (a : ℕ) → length xs ≡ a → a ≤ length out → out ≡ over xs ys → part ≡ over zs (take (length out - a) (drop a out))
+      → take a out ++ (part ++ drop (length out - a) (drop a out)) ≡ over (xs ++ zs) ys
+  over-part xs zs ys out part a e h x y =
+      let l : length (drop a out) ≤ length out - a = omega (arith, length-drop a out) in
+      let n : length xs ≤ a = omega arith in
+      let d : drop a out ≡ drop a ys = rw x (over-drop xs ys a n) in
+      let t : take a out ≡ xs = rw (x, ← e) (over-take xs ys) in
+      let p : part ≡ over zs (drop (length xs) ys) = y ∙ ap (over zs) (take-all (length out - a) (drop a out) l ∙ d ∙ ap (λ (j : ℕ). drop j ys) (sym e)) in
+      let z : drop (length out - a) (drop a out) ≡ [] = drop-of-length-le (drop a out) l in
+      ap₂ (λ (u v : List A). u ++ v) t (ap₂ (λ (u v : List A). u ++ v) p z ∙ append-nil (over zs (drop (length xs) ys))) ∙ over-over xs zs ys
+
+  -- a copy is written over the start
+  pub copied : (xs ys : List A) → take (length xs) xs ++ drop (length xs) ys ≡ over xs ys
+  unfolding over
+  copied xs ys = ap (λ (u : List A). u ++ drop (length xs) ys) (take-length xs)
 
   behind : (xs zs ys : List A) (at : ℕ) → length xs ≡ at → xs ++ (zs ++ drop (at + length zs) ys) ≡ over (xs ++ zs) ys
   unfolding over

@@ -6,7 +6,13 @@ use Prim.Native.Nat.{ℕ, zero, suc, _+_, _-_, _*_, _/_, _%_, _≤_, _<_}
 use native.Mathlib.Omega.{arith}
 use lib.Dec.{leb, leb→le}
 use lib.ListN.{length, getD, List·getD-eq-default}
-use Rattle.cells.specs.Table.{Row, row, rows, rowAt, rowOf, rowNumber, classOf, classAt, classNumber, kindNumber, kindOf, packed, total}
+use Rattle.cells.specs.Table.{Row, row, rows, rowAt, rowOf, classOf, total}
+use Rattle.cells.specs.RowNumbers.{rowNumber}
+use Rattle.cells.specs.RowNumbers.{classAt}
+use Rattle.cells.specs.RowNumbers.{classNumber}
+use Rattle.cells.specs.RowNumbers.{packed}
+use Rattle.cells.specs.RowNumbers.{kindOf}
+use Rattle.cells.specs.RowNumbers.{kindNumber}
 use Rattle.cells.proofs.Every.{at-any}
 use Rattle.cells.specs.declared.table.Kind.{Kind}
 use Rattle.cells.specs.declared.table.Kind.the-variants.{Reg, OptReg, Flag, Quad, Two, Four, Eight, Site}

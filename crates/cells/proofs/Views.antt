@@ -15,7 +15,9 @@ use Rattle.cells.specs.Cells.{Cell}
 use Rattle.cells.specs.Check.{registers, present, operandOk, operandsOk, isCommand, instructionCheck, rowOk}
 use Rattle.cells.specs.Ins.{Const, quad, bool, f64, i32, u32, fx, Ins, load, comp, label, jmp, jmpIf, ret, act}
 use Rattle.cells.specs.View.{optional, viewAs, view, loadCell, Below, Registers}
-use Rattle.cells.specs.Table.{Row, row, rows, rowAt, rowOf, classOf, kindNumber, kindOf, widthOf}
+use Rattle.cells.specs.Table.{Row, row, rows, rowAt, rowOf, classOf, widthOf}
+use Rattle.cells.specs.RowNumbers.{kindOf}
+use Rattle.cells.specs.RowNumbers.{kindNumber}
 use Rattle.cells.specs.declared.table.Kind.{Kind}
 use Rattle.cells.specs.declared.table.Kind.the-variants.{Reg, OptReg}
 use Rattle.cells.specs.declared.table.Class.{Class}

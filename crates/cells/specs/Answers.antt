@@ -1,4 +1,4 @@
--- Answers of a check, and 'the first refusal in order'.
+-- Promise: answers of a check, and 'the first refusal in order'.
 use Prim.Native.Nat.{ℕ}
 use mathlib.Core.List.{List, [], _∷_, _++_}
 use mathlib.Core.Bool.{Bool, cond}

@@ -1,11 +1,11 @@
--- Numbers in a list of bytes, little-endian (document 01, 'The cell image'). Past the end a byte is 0.
+-- Promise: numbers in a list of bytes, little-endian (document 01, 'The cell image'). Past the end a byte is 0.
 use Prim.Native.Nat.{ℕ, zero, suc, _+_, _*_, _/_, _%_}
 use mathlib.Core.List.{List, [], _∷_}
 use mathlib.Core.Bool.{Bool, true, _&&_}
 use lib.Dec.{eqb}
 use lib.ListN.{getD}
 
--- the number in 1, 2, 4 or 8 bytes from `at` on
+-- the number in 1, 2, 4 or 8 bytes from a position on
 abbrev pub byte : List ℕ → ℕ → ℕ
 byte c at = getD c at 0
 

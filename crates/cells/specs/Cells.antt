@@ -1,4 +1,4 @@
--- A list of bytes as cells of 16, and cells as bytes. What is left of a list that does not come out even is no cell.
+-- Promise: a list of bytes as cells of 16, and cells as bytes. What is left of a list that does not come out even is no cell.
 use Prim.Native.Nat.{ℕ, zero, suc, _*_, _/_}
 use mathlib.Core.Path.{_≡_}
 use mathlib.Core.List.{List, [], _∷_, _++_}
@@ -33,3 +33,8 @@ module _ {A : Type 0} where
   -- xs written over the start of ys; the rest of ys stays
   unfoldable pub over : List A → List A → List A
   over xs ys = xs ++ drop (length xs) ys
+
+-- numbers written over the start of a list, and how many
+pub record Put (xs before after : List ℕ) (r : ℕ) : Type 0 where
+  pub list : after ≡ over xs before
+  pub count : r ≡ length xs

@@ -1,4 +1,4 @@
--- The check of one cell (document 01, 'Answers of the operations'): 2 a head whose first byte is not F0, or whose counts pass a limit or the
+-- Promise: the check of one cell (document 01, 'Answers of the operations'): 2 a head whose first byte is not F0, or whose counts pass a limit or the
 -- image's end; 3 an unknown command or event kind; 4 an operand out of range, or a spare byte or an absent value not zero.
 use Prim.Native.Nat.{ℕ, _+_}
 use mathlib.Core.List.{List, [], _∷_}

@@ -1,15 +1,19 @@
--- The functions of an image: each a head cell, its instruction cells, its event cells (document 01, 'The cell image').
+-- Promise: the functions of an image: each a head cell, its instruction cells, its event cells (document 01, 'The cell image').
 use Prim.Native.Nat.{ℕ, zero, suc, _+_, _/_, _%_}
 use mathlib.Core.Path.{_≡_}
 use mathlib.Core.List.{List, [], _∷_, _++_}
 use lib.ListN.{length, getD, take, drop, set}
-use Rattle.cells.specs.Cells.{Cell}
+use Rattle.cells.specs.Cells.{Cell, cells}
 use Rattle.cells.specs.Check.{codeCount, eventCount}
 
 pub record Function : Type 0 where
   pub head : Cell
   pub code : List Cell
   pub events : List Cell
+
+-- a function by the bytes of its head and of its two parts
+abbrev pub functionOf : List ℕ → List ℕ → List ℕ → Function
+functionOf h code evs = record { head = h; code = cells code; events = cells evs }
 
 -- the function that a head starts, and the cells behind it
 abbrev pub functionAt : Cell → List Cell → Function

@@ -1,4 +1,4 @@
--- An instruction cell by what its run and the passes need of it.
+-- Promise: an instruction cell by what its run and the passes need of it.
 use mathlib.Core.Bool.{Bool, true, false}
 use mathlib.Core.Option.{Option, none, some}
 use Prim.Native.Nat.{ℕ}

@@ -2,11 +2,13 @@ pub mod Bytes
 pub mod Cells
 pub mod Lists
 pub mod Table
+pub mod RowNumbers
 pub mod Refusals
 pub mod Answers
 pub mod Check
 pub mod Functions
 pub mod Ins
 pub mod View
-pub mod Written
+pub mod Assembler
 pub mod WellFormed
+pub mod Spans

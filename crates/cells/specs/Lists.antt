@@ -1,4 +1,4 @@
--- Tests on the elements of a list.
+-- Promise: tests on the elements of a list.
 use Prim.Native.Nat.{ℕ, _+_}
 use mathlib.Core.List.{List, [], _∷_}
 use mathlib.Core.Bool.{Bool, true, false, cond, _||_}

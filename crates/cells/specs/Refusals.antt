@@ -1,4 +1,4 @@
--- What each refusal is by document 01 ('Answers of the operations'): its number, the function's position and a detail. The detail is the
+-- Promise: what each refusal is by document 01 ('Answers of the operations'): its number, the function's position and a detail. The detail is the
 -- cell's position in the image for 2 to 4, the site for 11 to 13, 21, 22, 24 to 26, else 0.
 use Prim.Native.Nat.{ℕ}
 use Rattle.cells.specs.declared.refusal.Refusal.{Refusal}
@@ -29,6 +29,6 @@ numbersOf (StoreVarSiteClaimedTwice p d) = numbered 25 p d
 numbersOf (WriteSiteUnknown p d) = numbered 26 p d
 
 -- an answer by the document: nothing refused, or a refusal's number, position and detail
-abbrev pub replyOf : Checked → Option Numbers
-replyOf Good = none
-replyOf (Refused x) = some (numbersOf x)
+abbrev pub numbersIn : Checked → Option Numbers
+numbersIn Good = none
+numbersIn (Refused x) = some (numbersOf x)

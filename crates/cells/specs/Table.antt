@@ -1,9 +1,7 @@
--- The table of the 81 commands, of an event and of a head: what each is, and of what kind its operands are, in the order in which the
+-- Promise: the table of the 81 commands, of an event and of a head: what each is, and of what kind its operands are, in the order in which the
 -- arm of `fold_constants_and_identities` names them (document 01, 'The cell image'). Every other reading of a cell goes by this table.
-use Prim.Native.Nat.{ℕ, _+_, _*_}
+use Prim.Native.Nat.{ℕ, _+_}
 use mathlib.Core.List.{List, [], _∷_}
-use mathlib.Core.Bool.{cond}
-use lib.Dec.{eqb}
 use lib.ListN.{getD}
 use Rattle.cells.specs.declared.table.Kind.{Kind}
 use Rattle.cells.specs.declared.table.Kind.the-variants.{Reg, OptReg, Flag, Quad, Two, Four, Eight, Site}
@@ -96,10 +94,10 @@ rows =
     row Binary (Reg ∷ Reg ∷ Reg ∷ []) ∷  -- 3E QImpl
     row Unary (Reg ∷ Reg ∷ []) ∷  -- 3F QNot
     row Binary (Reg ∷ Reg ∷ Reg ∷ []) ∷  -- 40 QOr
-    row ActDst (Reg ∷ Reg ∷ Reg ∷ []) ∷  -- 41 QTruthAnd
-    row ActDst (Reg ∷ Reg ∷ Reg ∷ []) ∷  -- 42 QTruthImpl
-    row ActDst (Reg ∷ Reg ∷ []) ∷  -- 43 QTruthNot
-    row ActDst (Reg ∷ Reg ∷ Reg ∷ []) ∷  -- 44 QTruthOr
+    row Binary (Reg ∷ Reg ∷ Reg ∷ []) ∷  -- 41 QTruthAnd
+    row Binary (Reg ∷ Reg ∷ Reg ∷ []) ∷  -- 42 QTruthImpl
+    row Unary (Reg ∷ Reg ∷ []) ∷  -- 43 QTruthNot
+    row Binary (Reg ∷ Reg ∷ Reg ∷ []) ∷  -- 44 QTruthOr
     row ActDst (Reg ∷ Reg ∷ Two ∷ Two ∷ []) ∷  -- 45 RecordGet
     row ActDst (Reg ∷ Two ∷ Two ∷ []) ∷  -- 46 SequenceContains
     row ActDst (Reg ∷ Reg ∷ Two ∷ []) ∷  -- 47 SequenceGet
@@ -138,70 +136,3 @@ classOf n = rowAt n .class
 abbrev pub total : List Kind → ℕ
 total [] = 0
 total (k ∷ ks) = widthOf k + total ks
-
--- ---- the code's own form of a row: a number whose lowest digit of sixteen is the class, and the further ones are the operands, the first lowest
-
-abbrev pub kindNumber : Kind → ℕ
-kindNumber Reg = 1
-kindNumber OptReg = 2
-kindNumber Flag = 3
-kindNumber Quad = 4
-kindNumber Two = 5
-kindNumber Four = 6
-kindNumber Eight = 7
-kindNumber Site = 8
-
--- the kind that a digit stands for
-unfoldable pub kindOf : ℕ → Kind
-kindOf n =
-    cond (eqb n 1) Reg
-    (cond (eqb n 2) OptReg
-    (cond (eqb n 3) Flag
-    (cond (eqb n 4) Quad
-    (cond (eqb n 5) Two
-    (cond (eqb n 6) Four
-    (cond (eqb n 7) Eight Site))))))
-
-abbrev pub packed : List Kind → ℕ
-packed [] = 0
-packed (k ∷ ks) = kindNumber k + 16 * packed ks
-
-abbrev pub classNumber : Class → ℕ
-classNumber NoCommand = 0
-classNumber LoadQ = 1
-classNumber LoadBool = 2
-classNumber LoadF64 = 3
-classNumber LoadI32 = 4
-classNumber LoadU32 = 5
-classNumber LoadFx = 6
-classNumber Unary = 7
-classNumber Binary = 8
-classNumber Label = 9
-classNumber Jmp = 10
-classNumber JmpIf = 11
-classNumber Ret = 12
-classNumber Act = 13
-classNumber ActDst = 14
-classNumber ActOptDst = 15
-
--- the class that a digit stands for
-unfoldable pub classAt : ℕ → Class
-classAt n =
-    cond (eqb n 1) LoadQ
-    (cond (eqb n 2) LoadBool
-    (cond (eqb n 3) LoadF64
-    (cond (eqb n 4) LoadI32
-    (cond (eqb n 5) LoadU32
-    (cond (eqb n 6) LoadFx
-    (cond (eqb n 7) Unary
-    (cond (eqb n 8) Binary
-    (cond (eqb n 9) Label
-    (cond (eqb n 10) Jmp
-    (cond (eqb n 11) JmpIf
-    (cond (eqb n 12) Ret
-    (cond (eqb n 13) Act
-    (cond (eqb n 14) ActDst
-    (cond (eqb n 15) ActOptDst NoCommand))))))))))))))
-
-abbrev pub rowNumber : Row → ℕ
-rowNumber r = classNumber (r .class) + 16 * packed (r .operands)

@@ -1,4 +1,4 @@
--- What an instruction cell is, by the table of commands; and the cell that loads a constant.
+-- Promise: what an instruction cell is, by the table of commands; and the cell that loads a constant.
 use mathlib.Core.Bool.{Bool, true, false, cond, not}
 use mathlib.Core.Option.{Option, none, some}
 use mathlib.Core.List.{List, [], _∷_, _++_}

@@ -1,4 +1,4 @@
--- A function whose cells all pass the image check (document 01, 'Answers of the operations'), wherever it stands: its head has room for the
+-- Promise: a function whose cells all pass the image check (document 01, 'Answers of the operations'), wherever it stands: its head has room for the
 -- function's own cells, and counts them; every cell has its 16 bytes.
 use mathlib.Core.Path.{_≡_}
 use Prim.Native.Nat.{ℕ}

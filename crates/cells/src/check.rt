@@ -25,6 +25,9 @@ pub const MAX_IMAGE: usize = 65536;
 // The first byte of a head, and the last command.
 const HEAD: u8 = 0xf0;
 
+// In how many bytes a head's name and counts end, which are any numbers.
+const HEAD_BYTES: usize = 7;
+
 const LAST_COMMAND: usize = 0x51;
 
 // A presence byte and the value behind it.
@@ -153,8 +156,5 @@ pub fn check_head(c: &[u8], position: usize, at: usize, after: usize) -> Checked
     if after < code + events {
         return Checked::Refused(Refusal::Head(position, at));
     }
-    unless(
-        operands_ok(c, table::HEAD_ROW),
-        Refusal::Operand(position, at),
-    )
+    unless(zeros_from(c, HEAD_BYTES), Refusal::Operand(position, at))
 }

@@ -15,7 +15,7 @@ pub fn wide(x: u8) -> usize
     x as usize
 }
 
-// The number in 2 bytes from `at` on.
+// The number in 2 bytes from a position on.
 pub fn half(c: &[u8], at: usize) -> usize
     requires { ⌜ at + 2 ≤ length (now c) ⌝ }
     ensures { λ r. ⌜ (r ≡ halfOf (now (c .entry)) at) × (r < 65536) ⌝ }

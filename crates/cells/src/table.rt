@@ -1,7 +1,10 @@
 // The layout of the 81 commands, of an event and of a head: one table.
 ghost use mathlib.Core.Path.{_≡_};
 ghost use Prim.Native.Nat.{_<_};
-ghost use Rattle.cells.specs.Table.{widthOf, rowAt, rowNumber, kindOf, classAt, classOf};
+ghost use Rattle.cells.specs.Table.{widthOf, rowAt, classOf};
+ghost use Rattle.cells.specs.RowNumbers.{rowNumber};
+ghost use Rattle.cells.specs.RowNumbers.{classAt};
+ghost use Rattle.cells.specs.RowNumbers.{kindOf};
 
 // The kinds of an operand: a register, a register behind a presence byte, a bool, a quad, 2, 4 or 8 free bytes, a site.
 pub enum Kind {
@@ -37,8 +40,6 @@ pub enum Class {
 }
 
 pub const EVENT_ROW: usize = 0x52;
-
-pub const HEAD_ROW: usize = 0x53;
 
 // The row of each command byte, then an event's and a head's. The lowest digit is the class, the further ones the operands. (A `match`, since
 // an array would be set up anew at each call.)
@@ -112,10 +113,10 @@ pub fn row_at(row: usize) -> u32
         0x3E => 0x001118, // QImpl
         0x3F => 0x000117, // QNot
         0x40 => 0x001118, // QOr
-        0x41 => 0x00111E, // QTruthAnd
-        0x42 => 0x00111E, // QTruthImpl
-        0x43 => 0x00011E, // QTruthNot
-        0x44 => 0x00111E, // QTruthOr
+        0x41 => 0x001118, // QTruthAnd
+        0x42 => 0x001118, // QTruthImpl
+        0x43 => 0x000117, // QTruthNot
+        0x44 => 0x001118, // QTruthOr
         0x45 => 0x05511E, // RecordGet
         0x46 => 0x00551E, // SequenceContains
         0x47 => 0x00511E, // SequenceGet

@@ -10,12 +10,10 @@ use Rattle.cells.specs.WellFormed.{InstructionGood, EventGood, WellFormed}
 use Rattle.cells.proofs.Checks.{head-fits}
 use Rattle.cells.proofs.Functions.{new-head-length, new-head-counts}
 use Rattle.cells.proofs.GoodCells.{new-head-good}
-use Rattle.cells.proofs.Lists.{all-append}
-use Rattle.sites.proofs.DoubleCounting.{counted}
-use Rattle.sites.proofs.Tally.{all-parts}
+use Rattle.cells.proofs.Lists.{all-append, all-parts, sub-all}
 use Rattle.cleanup.specs.Cleanup.{cleanCode, cleanEvents, cleanFunction}
 use Rattle.cleanup.proofs.CleanupCounts.{shorter, events-fewer}
-use Rattle.cleanup.proofs.EachLeft.{all-clean, all-events}
+use Rattle.cleanup.proofs.EachLeft.{sub-code, sub-events}
 
 pub clean-well-formed : (g : Function) → WellFormed g → WellFormed (cleanFunction g)
 unfolding cleanFunction
@@ -31,12 +29,12 @@ clean-well-formed g w =
           (omega (arith, w .counted .0, shorter (g .code)))
           (omega (arith, w .counted .1, events-fewer (g .code) (g .events)))
           (length cs + length es) (omega arith);
-      code = all-clean InstructionGood (g .code) (w .code);
-      events = all-events EventGood (g .code) (g .events) (w .events);
+      code = sub-all InstructionGood (sub-code (g .code)) (w .code);
+      events = sub-all EventGood (sub-events (g .code) (g .events)) (w .events);
       counted = (sym (n .0), sym (n .1));
       full = (
         new-head-length (g .head) (length cs) (length es) ∙ w .full .0,
-        all-append (λ c. length c ≡ 16) cs es (all-clean (λ c. length c ≡ 16) (g .code) (s .0)) (all-events (λ c. length c ≡ 16) (g .code) (g .events) (s .1)),
+        all-append (λ c. length c ≡ 16) cs es (sub-all (λ c. length c ≡ 16) (sub-code (g .code)) (s .0)) (sub-all (λ c. length c ≡ 16) (sub-events (g .code) (g .events)) (s .1)),
       );
     }
 

@@ -9,21 +9,21 @@ use Rattle.cells.specs.Functions.{Function}
 use Rattle.cells.specs.View.{view}
 use Rattle.cells.specs.Lists.{only, All}
 use Rattle.cells.specs.declared.refusal.Checked.the-variants.{Good}
-use Rattle.cells.proofs.Lists.{all-each}
+use Rattle.cells.proofs.Lists.{all-each, any-yes, any-no, tally-only, tally-none, sub-all, sub-tally}
 use Rattle.cells.proofs.Facts.{by-test}
 use Rattle.sites.specs.Sites.{siteOf, eventSite, isWrite, isSite, stands, times}
 use Rattle.sites.specs.Validators.{siteCheck}
-use Rattle.sites.specs.Fit.{storeSite, BorrowsAlone, WritesAlone, WriteSited, Paired, Claimed}
+use Rattle.sites.proofs.Fit.{storeSite, BorrowsAlone, WritesAlone, WriteSited, Paired, Claimed}
 use Rattle.sites.specs.declared.Site.the-variants.{Absent, At}
 use Rattle.sites.specs.declared.Which.{Which}
 use Rattle.sites.specs.declared.Which.the-variants.{Activation, Write}
 use Rattle.sites.proofs.Judged.{site-is, not-absent}
-use Rattle.sites.proofs.Tally.{all-only, any-yes, any-no, tally-only, tally-none, tally-less}
 use Rattle.sites.proofs.SitesFit.{site-check}
 use Rattle.sites.proofs.SameSites.{site-capable, store-capable}
-use Rattle.cleanup.specs.Passes.{removed}
+use Rattle.cleanup.specs.Sweeps.{removed}
 use Rattle.cleanup.specs.Cleanup.{stays, cleanCode, cleanEvents, cleanFunction}
 use Rattle.cleanup.proofs.SitesSplit.{split}
+use Rattle.cleanup.proofs.EachLeft.{sub-events}
 
 abbrev pub other : Which → Which
 other Activation = Write
@@ -63,7 +63,7 @@ module _ (cs es : List Cell) (a : Paired cs es) (b : Claimed cs es) where
   unfolding cleanEvents
   paired = record {
     once = λ x. omega (arith, part x, a .once x);
-    borrows = all-only BorrowsAlone (stays (removed view cs)) es (a .borrows);
+    borrows = sub-all BorrowsAlone (sub-events cs es) (a .borrows);
     same = λ x. let p = part x in let o = a .once x in let s = a .same x in by-test (stands (siteOf Activation) x (removed view cs))
         (λ v. omega (arith, went Activation (removed view cs) es (singles Activation) x v, any-yes (λ c. isSite x (siteOf Activation c)) (removed view cs) v))
         (λ v. omega (arith, stayed Activation (removed view cs) es (singles Activation) x v, any-no (λ c. isSite x (siteOf Activation c)) (removed view cs) v));
@@ -76,12 +76,12 @@ module _ (cs es : List Cell) (a : Paired cs es) (b : Claimed cs es) where
   unfolding cleanEvents
   claimed = record {
     once = λ x. omega (arith, part x, b .once x);
-    borrows = all-only WritesAlone (stays (removed view cs)) es (b .borrows);
-    writes = all-only WriteSited (stays (removed view cs)) es (b .writes);
+    borrows = sub-all WritesAlone (sub-events cs es) (b .borrows);
+    writes = sub-all WriteSited (sub-events cs es) (b .writes);
     claimed = λ x. let p = part x in let o = b .once x in let s = b .claimed x in by-test (stands (siteOf Write) x (removed view cs))
         (λ v. omega (arith, any-yes (λ c. isSite x (siteOf Write c)) (removed view cs) v))
         (λ v. omega (arith, stayed Write (removed view cs) es (singles Write) x v));
-    single = λ x l. omega (arith, tally-less (λ e. isSite x (eventSite Write e)) (stays (removed view cs)) es, b .single x (omega (arith, split (λ c. isSite x (storeSite c)) (store-capable x) cs)));
+    single = λ x l. omega (arith, sub-tally (λ e. isSite x (eventSite Write e)) (sub-events cs es), b .single x (omega (arith, split (λ c. isSite x (storeSite c)) (store-capable x) cs)));
     known = λ x l. let p = part x in by-test (stands (siteOf Write) x (removed view cs))
         (λ v. absurd (omega (arith, went Write (removed view cs) es (singles Write) x v)))
         (λ v. let k = stayed Write (removed view cs) es (singles Write) x v in omega (arith, any-no (λ c. isSite x (siteOf Write c)) (removed view cs) v, b .known x (omega arith)));

@@ -10,7 +10,7 @@ use Rattle.machine.specs.Records.{SameRecords}
 use Rattle.machine.proofs.Growth.{same-trans}
 use Rattle.machine.proofs.Jumps.{plain}
 use Rattle.cleanup.specs.Marks.{jumpOf}
-use Rattle.cleanup.specs.Passes.{dedupe, reach, sweep, cleanup}
+use Rattle.cleanup.specs.Sweeps.{dedupe, reach, sweep, cleanup}
 use Rattle.cleanup.specs.Cleanup.{cleanCode}
 use Rattle.cleanup.specs.Premise.{OnePlace}
 use Rattle.cleanup.proofs.Natural.{map-cleanup}

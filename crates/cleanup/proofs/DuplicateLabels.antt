@@ -12,7 +12,7 @@ use Rattle.machine.specs.Run.{seek}
 use Rattle.machine.specs.Records.{SameRecords}
 use Rattle.machine.proofs.Simulation.{Advance, Rel, Simulation, same, same-by, stays}
 use Rattle.machine.proofs.Jumps.{both-map, exec-label, plain}
-use Rattle.cleanup.specs.Passes.{dedupe}
+use Rattle.cleanup.specs.Sweeps.{dedupe}
 
 abbrev ρ : Rel
 ρ p r q s = (q ≡ dedupe plain none p) × (r ≡ s)

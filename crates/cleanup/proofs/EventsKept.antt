@@ -15,12 +15,13 @@ use Rattle.sites.specs.declared.Site.{Site}
 use Rattle.sites.specs.declared.Site.the-variants.{Absent, At}
 use Rattle.sites.specs.declared.Which.{Which}
 use Rattle.sites.specs.declared.Which.the-variants.{Activation, Write}
-use Rattle.sites.proofs.Tally.{all-two, only-same, any-yes, any-no, to-all}
+use Rattle.cells.proofs.Lists.{all-two, only-same, any-yes, any-no}
+use Rattle.sites.proofs.Tally.{to-all}
 use Rattle.sites.proofs.SitesFit.{site-check}
 use Rattle.sites.proofs.SameSites.{site-capable}
-use Rattle.cleanup.specs.Passes.{removed}
+use Rattle.cleanup.specs.Sweeps.{removed}
 use Rattle.cleanup.specs.Cleanup.{onGone, goes, stays, cleanCode, cleanEvents}
-use Rattle.cleanup.specs.KeptEvents.{keptSite, keptEvent}
+use Rattle.cleanup.proofs.KeptEvents.{keptSite, keptEvent}
 use Rattle.cleanup.proofs.SitesSplit.{split}
 
 -- a site that stands on one cell of the function is removed, or stands on a cell that is left

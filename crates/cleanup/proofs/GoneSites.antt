@@ -1,31 +1,31 @@
 -- The sites on the cells that the second sweep removes: gathered from the cells as they were sent, and as the definition has them.
-use mathlib.Core.Path.{_≡_, refl, sym, _∙_, ap, ap₂}
-use mathlib.Core.Bool.{Bool, true, false, _&&_, _||_, not, true≢false}
+use mathlib.Core.Path.{_≡_, refl, sym, _∙_, ap, ap₂, fun-ext}
+use mathlib.Core.Bool.{Bool, true, false, _||_, not}
 use mathlib.Core.Option.{Option, none}
 use mathlib.Core.List.{List, [], _∷_}
 use Prim.Native.Nat.{ℕ, _+_, _/_, _≤_, _<_}
 use native.Mathlib.Omega.{arith}
-use lib.Dec.{eqb}
+use borrow.Author.Tests.{not-true}
 use lib.ListN.{length, getD, drop}
 use Rattle.cells.specs.Cells.{Cell, cells, cellAt}
 use Rattle.cells.specs.Ins.{Ins, load, comp, label, jmp, jmpIf, ret, act, labelOf, alike}
-use Rattle.cells.specs.Lists.{any, only}
+use Rattle.cells.specs.Lists.{only}
 use Rattle.cells.specs.View.{view}
 use Rattle.cells.proofs.Cells.{cell-at}
-use Rattle.cells.proofs.Facts.{by-test, clash, alike-true}
+use Rattle.cells.proofs.Facts.{by-test, clash, and-true, alike-true}
 use Rattle.cells.proofs.Over.{over-nil}
-use Rattle.sites.specs.Sites.{siteOf, eventSite, siteBy, isSite, stands}
-use Rattle.sites.specs.declared.Part.the-variants.{Code, Events}
+use Rattle.sites.specs.Sites.{siteOf, eventSite, siteBy, sitesOn}
+use Rattle.cells.specs.declared.walk.Part.the-variants.{Code, Events}
 use Rattle.sites.specs.declared.Site.{Site}
 use Rattle.sites.specs.declared.Site.the-variants.{Absent, At}
 use Rattle.sites.specs.declared.Which.{Which}
 use Rattle.sites.specs.declared.Which.the-variants.{Activation, Write}
-use Rattle.sites.proofs.Tally.{all-of, only-same}
+use Rattle.sites.proofs.Counted.{sites-any}
 use Rattle.cleanup.specs.Marks.{terminal, isThere}
-use Rattle.cleanup.specs.Passes.{dedupe, cutOff, unreached, removed}
+use Rattle.cleanup.specs.Sweeps.{dedupe, cutOff, unreached, removed}
 use Rattle.cleanup.specs.Cleanup.{onGone, stays, cleanEvents}
-use Rattle.cleanup.specs.Receipts.{withSite, sitesOn, among, spared}
-use Rattle.cleanup.specs.Written.{Kept}
+use Rattle.cleanup.specs.Receipts.{among, spared}
+use Rattle.cleanup.specs.Output.{Kept}
 use Rattle.cleanup.proofs.Writing.{cells-cons, cells-none}
 
 -- ---- repeated labels make no difference to the second sweep
@@ -42,11 +42,6 @@ label-goes-on (act c d b) e = refl
 alike-there : (a b : Option ℕ) → alike a b ≡ true → (isThere a ≡ true) × (isThere b ≡ true)
 alike-there a b e = let (l, u, v) = alike-true a b e in (rw u, rw v)
 
-cut-true : (b l : Bool) → (b && not l) ≡ true → l ≡ false
-cut-true true true e = sym e
-cut-true true false e = refl
-cut-true false l e = absurd (true≢false (sym e))
-
 module _ {C : Type 0} (see : C → Ins) where
   unreached-dedupe : (k : Option ℕ) (b : Bool) (p : List C) → (isThere k ≡ true → b ≡ false) → unreached see b (dedupe see k p) ≡ unreached see b p
   unreached-dedupe k b [] h = refl
@@ -57,7 +52,7 @@ module _ {C : Type 0} (see : C → Ins) where
       let f : terminal (see c) ≡ false = label-goes-on (see c) (z .1) in
       rw (y, e, f) (unreached-dedupe k false p (λ _. refl)))
       (λ y. by-test (cutOff see b c)
-      (λ z. rw (y, z) (ap (_∷_ c) (unreached-dedupe (labelOf (see c)) b p (λ t. clash (isThere (labelOf (see c))) t (cut-true b (isThere (labelOf (see c))) z)))))
+      (λ z. rw (y, z) (ap (_∷_ c) (unreached-dedupe (labelOf (see c)) b p (λ t. clash (isThere (labelOf (see c))) t (not-true _ (and-true b _ z .1))))))
       (λ z. rw (y, z) (unreached-dedupe (labelOf (see c)) (terminal (see c)) p (label-goes-on (see c)))))
 
   removed-is : (p : List C) → removed see p ≡ unreached see false p
@@ -80,10 +75,10 @@ event-site s k w h e = site-read s k (eventSite w) h e
 
 -- from the cell k on
 abbrev pub gone : Which → List ℕ → Bool → ℕ → List ℕ
-gone w s cut k = sitesOn w (unreached view cut (drop k (cells s)))
+gone w s cut k = sitesOn (siteOf w) (unreached view cut (drop k (cells s)))
 
-pub gone-all : (w : Which) (s : List ℕ) → sitesOn w (removed view (cells s)) ≡ gone w s false 0
-gone-all w s = ap (sitesOn w) (removed-is view (cells s))
+pub gone-all : (w : Which) (s : List ℕ) → sitesOn (siteOf w) (removed view (cells s)) ≡ gone w s false 0
+gone-all w s = ap (sitesOn (siteOf w)) (removed-is view (cells s))
 
 module _ (w : Which) (s : List ℕ) (cut : Bool) (k : ℕ) where
   module _ (h : k < length s / 16) where
@@ -101,27 +96,15 @@ module _ (w : Which) (s : List ℕ) (cut : Bool) (k : ℕ) where
 
 -- ---- the events that they spare are those that stay
 
-any-with : (s : Site) (xs : List ℕ) (x : ℕ) → any (λ (y : ℕ). eqb y x) (withSite s xs) ≡ (isSite x s || any (λ (y : ℕ). eqb y x) xs)
-any-with Absent xs x = refl
-any-with (At y) xs x = refl
-
-any-sites : (w : Which) (cs : List Cell) (x : ℕ) → any (λ (y : ℕ). eqb y x) (sitesOn w cs) ≡ stands (siteOf w) x cs
-any-sites w [] x = refl
-any-sites w (c ∷ cs) x = any-with (siteOf w c) (sitesOn w cs) x ∙ ap (λ (b : Bool). isSite x (siteOf w c) || b) (any-sites w cs x)
-
-among-sites : (w : Which) (cs : List Cell) (s : Site) → among (sitesOn w cs) s ≡ onGone w cs s
+among-sites : (w : Which) (cs : List Cell) (s : Site) → among (sitesOn (siteOf w) cs) s ≡ onGone w cs s
 among-sites w cs Absent = refl
-among-sites w cs (At x) = any-sites w cs x
+among-sites w cs (At x) = sites-any (siteOf w) x cs
 
-spared-stays : (cs es : List Cell) → only (spared (sitesOn Activation cs) (sitesOn Write cs)) es ≡ only (stays cs) es
-spared-stays cs es =
-    let f = spared (sitesOn Activation cs) (sitesOn Write cs) in
-    let same : (e : Cell) → f e ≡ stays cs e =
-    λ e. ap₂ (λ (a b : Bool). not (a || b)) (among-sites Activation cs (eventSite Activation e)) (among-sites Write cs (eventSite Write e)) in
-    only-same f (stays cs) es (all-of (λ (e : Cell). f e ≡ stays cs e) same es)
+spared-stays : (cs es : List Cell) → only (spared (sitesOn (siteOf Activation) cs) (sitesOn (siteOf Write) cs)) es ≡ only (stays cs) es
+spared-stays cs es = ap (λ (f : Cell → Bool). only f es) (fun-ext λ e. ap₂ (λ (a b : Bool). not (a || b)) (among-sites Activation cs (eventSite Activation e)) (among-sites Write cs (eventSite Write e)))
 
 -- the events written, by the two lists that the code gathered
-pub kept-events : (cs es : List Cell) {xs ys before after : List ℕ} {r : ℕ} → xs ≡ sitesOn Activation (removed view cs) → ys ≡ sitesOn Write (removed view cs)
+pub kept-events : (cs es : List Cell) {xs ys before after : List ℕ} {r : ℕ} → xs ≡ sitesOn (siteOf Activation) (removed view cs) → ys ≡ sitesOn (siteOf Write) (removed view cs)
     → Kept (only (spared xs ys) es) before after r → Kept (cleanEvents cs es) before after r
 unfolding cleanEvents
 kept-events cs es {xs} {ys} p q k =

@@ -6,12 +6,12 @@ use native.Mathlib.Omega.{arith}
 use lib.ListN.{length, set, take, drop, length-set, length-drop, drop-of-length-le}
 use lib.Seq.{take-all, drop-at, length-take-le, set-append-left}
 use Rattle.cells.specs.Cells.{Cell, cells, flat, over}
-use Rattle.cells.specs.Functions.{newHead}
+use Rattle.cells.specs.Functions.{functionOf, newHead}
 use Rattle.cells.proofs.Functions.{new-head-length}
 use Rattle.cells.proofs.Over.{over-over}
-use Rattle.cleanup.specs.Cleanup.{cleanCode, cleanEvents, cleanFunction}
-use Rattle.cleanup.specs.Written.{Written, functionOf, WrittenFunction}
-use Rattle.cleanup.specs.declared.Cleaned.{Cleaned}
+use Rattle.cleanup.specs.Cleanup.{cleanCode, cleanEvents, cleanFunction, cleanCount}
+use Rattle.cleanup.specs.Output.{PartsWritten, Holds}
+use Rattle.cleanup.specs.declared.FunctionReport.{FunctionReport}
 use Rattle.cleanup.proofs.CleanupCounts.{shorter, events-fewer}
 
 set-first : (h t : List ℕ) (i x : ℕ) → i < 16 → length h ≡ 16 → set (h ++ t) i x ≡ set h i x ++ t
@@ -49,12 +49,12 @@ headed h x out₀ part o₁ o₂ o₃ n m l r p e₁ e₂ e₃ =
     ∙ ap (λ (j : ℕ). newHead h n m ++ over x (drop j out₀)) (sym (new-head-length h n m ∙ l)) ∙ over-over (newHead h n m) x out₀
 
 -- the counts fit into a head
-pub counts-few : {cs es : List Cell} {before after : List ℕ} {r : Cleaned} → Written cs es before after r → (r .instructions ≤ length cs) × (r .events ≤ length es)
+pub counts-few : {cs es : List Cell} {before after : List ℕ} {r : FunctionReport} → PartsWritten cs es before after r → (r .instructions ≤ length cs) × (r .events ≤ length es)
 counts-few {cs} {es} w = (omega (arith, w .instructions, shorter cs), omega (arith, w .events, events-fewer cs es))
 
-pub written-function : (h code evs out₀ part o₁ o₂ o₃ : List ℕ) (r : Cleaned) → length h ≡ 16 → 16 ≤ length out₀
-    → Written (cells code) (cells evs) (take (length out₀ - 16) (drop 16 out₀)) part r → o₁ ≡ take 16 out₀ ++ (part ++ drop (length out₀ - 16) (drop 16 out₀))
-    → o₂ ≡ take 16 h ++ drop 16 o₁ → o₃ ≡ newHead o₂ (r .instructions) (r .events) → WrittenFunction (functionOf h code evs) out₀ o₃ r
+pub written-function : (h code evs out₀ part o₁ o₂ o₃ : List ℕ) (r : FunctionReport) → length h ≡ 16 → 16 ≤ length out₀
+    → PartsWritten (cells code) (cells evs) (take (length out₀ - 16) (drop 16 out₀)) part r → o₁ ≡ take 16 out₀ ++ (part ++ drop (length out₀ - 16) (drop 16 out₀))
+    → o₂ ≡ take 16 h ++ drop 16 o₁ → o₃ ≡ newHead o₂ (r .instructions) (r .events) → Holds (cleanFunction (functionOf h code evs)) (cleanCount (cells code)) out₀ o₃ r
 unfolding cleanFunction
 written-function h code evs out₀ part o₁ o₂ o₃ r l s w e₁ e₂ e₃ = record { bytes = b; instructions = w .instructions; events = w .events; rewrites = w .rewrites }
   where

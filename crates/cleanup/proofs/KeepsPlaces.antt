@@ -11,8 +11,8 @@ use Rattle.cells.specs.View.{view}
 use Rattle.cells.proofs.Facts.{by-test, alike-self}
 use Rattle.machine.specs.Run.{seek}
 use Rattle.machine.proofs.Jumps.{plain}
-use Rattle.cleanup.specs.Marks.{jumpOf, loadOf}
-use Rattle.cleanup.specs.Passes.{dedupe, reach, sweep, next, cleanup}
+use Rattle.cleanup.specs.Marks.{jumpOf, removableLoad}
+use Rattle.cleanup.specs.Sweeps.{dedupe, reach, sweep, next, cleanup}
 use Rattle.cleanup.specs.Cleanup.{cleanCode}
 use Rattle.cleanup.specs.Premise.{OnePlace}
 use Rattle.cleanup.proofs.SweepLaws.{seek-sweep}
@@ -30,7 +30,7 @@ once-sweep f g u (i ∷ p) o = by-test (alike (f i) (next plain g p))
 pub once-cleanup : (p : List Ins) → OnePlace p → Once (cleanup plain p)
 once-cleanup p o =
     let p₂ : List Ins = reach plain false (dedupe plain none p) in
-    once-sweep loadOf loadOf load-label (sweep plain jumpOf labelOf p₂) (once-sweep jumpOf labelOf jump-label p₂ (once p o))
+    once-sweep removableLoad removableLoad load-label (sweep plain jumpOf labelOf p₂) (once-sweep jumpOf labelOf jump-label p₂ (once p o))
 
 -- a label that stands in a list is found
 found : (l : ℕ) (m z : List Ins) → (s : List Ins) × (seek l (m ++ (label l ∷ z)) ≡ some s)

@@ -1,6 +1,6 @@
 -- Where each label name stands at one place, each label stands once after the first two sweeps.
 use mathlib.Core.Path.{_≡_, refl, sym, _∙_, ap, ap₂}
-use mathlib.Core.Bool.{Bool, true, false, true≢false, _&&_, not}
+use mathlib.Core.Bool.{Bool, false, true≢false, _&&_, not}
 use mathlib.Core.Option.{Option, none, some, Option·map}
 use mathlib.Core.List.{List, [], _∷_, _++_}
 use Prim.Native.Nat.{ℕ}
@@ -9,7 +9,7 @@ use Rattle.cells.proofs.Facts.{alike-self, alike-true, by-test, label-is}
 use Rattle.machine.specs.Run.{seek}
 use Rattle.machine.proofs.Jumps.{plain}
 use Rattle.cleanup.specs.Marks.{isThere, terminal}
-use Rattle.cleanup.specs.Passes.{dedupe, reach}
+use Rattle.cleanup.specs.Sweeps.{dedupe, reach}
 use Rattle.cleanup.specs.Premise.{AllAre, OnePlace}
 use Rattle.cleanup.proofs.DuplicateLabels.{seek-dedupe}
 use Rattle.cleanup.proofs.Unreachable.{seek-reach}
@@ -22,11 +22,11 @@ seek-split l (i ∷ p) s e = by-test (alike (some l) (labelOf i))
     (λ y. let (m, u, v) = alike-true (some l) (labelOf i) y in ([], p, ap (λ j. j ∷ p) (label-is i l (v ∙ sym u))))
     (λ y. let (a, z, x) = seek-split l p s (rw y at e) in (i ∷ a, z, ap (_∷_ i) x))
 
-tail-one-place : (i : Ins) (p : List Ins) → OnePlace (i ∷ p) → OnePlace p
+pub tail-one-place : (i : Ins) (p : List Ins) → OnePlace (i ∷ p) → OnePlace p
 unfolding OnePlace
 tail-one-place i p o l a m z e = o l (i ∷ a) m z (ap (_∷_ i) e)
 
--- after a label l at its one place, pass 1 terminal no other
+-- behind a label l at its one place, the first sweep leaves no other
 one-gone : (l : ℕ) (p : List Ins) → ((m z : List Ins) → p ≡ m ++ (label l ∷ z) → AllAre (label l) m) → seek l (dedupe plain (some l) p) ≡ none
 one-gone l [] o = refl
 one-gone l (i ∷ p) o = by-test (alike (some l) (labelOf i))

@@ -1,3 +1,5 @@
+pub mod KeptEvents
+pub mod Sweeping
 pub mod Natural
 pub mod SweepLaws
 pub mod DuplicateLabels
@@ -15,8 +17,7 @@ pub mod EventsKept
 pub mod Alone
 pub mod EachLeft
 pub mod CleanWellFormed
-pub mod MarkAt
-pub mod Going
+pub mod Marking
 pub mod Turns
 pub mod Positions
 pub mod Stages
@@ -24,3 +25,4 @@ pub mod Writing
 pub mod GoneSites
 pub mod Whole
 pub mod Heads
+pub mod PlaceTest

@@ -12,7 +12,7 @@ use Rattle.machine.specs.Records.{SameRecords}
 use Rattle.machine.proofs.Simulation.{Advance, Rel, Simulation, same, same-by, stays}
 use Rattle.machine.proofs.Jumps.{both-map, plain, seek-end}
 use Rattle.cleanup.specs.Marks.{jumpOf}
-use Rattle.cleanup.specs.Passes.{next, sweep}
+use Rattle.cleanup.specs.Sweeps.{next, sweep}
 use Rattle.cleanup.proofs.SweepLaws.{seek-sweep, sweep-keeps}
 
 -- each label stands once

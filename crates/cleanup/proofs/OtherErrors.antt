@@ -1,27 +1,27 @@
 -- The Rust's other errors of cleanup cannot occur.
-use mathlib.Core.Path.{_≡_, refl}
-use mathlib.Core.Bool.{true, not}
+use mathlib.Core.Path.{_≡_, refl, ap, fun-ext}
+use mathlib.Core.Bool.{Bool, true, not}
 use mathlib.Core.List.{List}
 use Prim.Native.Nat.{ℕ}
 use native.Mathlib.Omega.{arith}
 use Rattle.cells.specs.Cells.{Cell}
+use Rattle.cells.specs.Lists.{tally}
 use Rattle.cells.specs.View.{view}
 use Rattle.cells.specs.declared.refusal.Checked.the-variants.{Good}
-use Rattle.cells.proofs.Lists.{all-each}
+use Rattle.cells.proofs.Lists.{all-each, only-neither, length-not, any-yes, yes-any, tally-only}
 use Rattle.sites.specs.Sites.{siteOf, eventSite, isSite, stands, times}
 use Rattle.sites.specs.Validators.{siteCheck}
-use Rattle.sites.specs.Fit.{Paired, Claimed}
-use Rattle.sites.specs.RustTests.{met}
+use Rattle.sites.proofs.Fit.{Paired, Claimed}
+use Rattle.sites.proofs.RustTests.{met}
 use Rattle.sites.specs.declared.Site.{Site}
 use Rattle.sites.specs.declared.Site.the-variants.{Absent, At}
 use Rattle.sites.specs.declared.Which.{Which}
 use Rattle.sites.specs.declared.Which.the-variants.{Activation, Write}
 use Rattle.sites.proofs.Judged.{site-is}
-use Rattle.sites.proofs.Tally.{only-neither, length-not, any-yes, yes-any, tally-only, tally-alike}
 use Rattle.sites.proofs.SitesFit.{site-check}
 use Rattle.sites.proofs.SameSites.{site-capable}
-use Rattle.sites.proofs.DoubleCounting.{counted}
-use Rattle.cleanup.specs.Passes.{removed}
+use Rattle.sites.proofs.DoubleCounting.{double-counted}
+use Rattle.cleanup.specs.Sweeps.{removed}
 use Rattle.cleanup.specs.Cleanup.{onGone, goes, cleanEvents}
 use Rattle.cleanup.specs.Errors.{retain, sitesRemoved, eventsRemoved}
 use Rattle.cleanup.proofs.SitesSplit.{split}
@@ -47,8 +47,8 @@ module _ (position : ℕ) (cs es : List Cell) (good : siteCheck position cs es �
   pub events-paired : eventsRemoved cs es ≡ sitesRemoved cs
   events-paired =
       let p : (x : ℕ) → times (siteOf Activation) x cs ≡ _ = λ x. split (λ c. isSite x (siteOf Activation c)) (site-capable Activation x) cs in
-      let n = counted (siteOf Activation) (eventSite Activation) es (removed view cs) (λ x. omega (arith, p x, a .once x)) (λ x l. omega (arith, p x, a .once x, a .same x)) in
-      let m = tally-alike (goes Activation (removed view cs)) (λ e. met (siteOf Activation) (removed view cs) (eventSite Activation e)) (λ e. gone-met Activation (removed view cs) (eventSite Activation e)) es in
+      let n = double-counted (siteOf Activation) (eventSite Activation) es (removed view cs) (λ x. omega (arith, p x, a .once x)) (λ x l. omega (arith, p x, a .once x, a .same x)) in
+      let m = ap (λ (f : Cell → Bool). tally f es) (fun-ext λ e. gone-met Activation (removed view cs) (eventSite Activation e)) in
       omega (arith, length-not (goes Activation (removed view cs)) es)
 
   -- "deleted an annotated write-site instruction for WriteSiteId({}) but found zero paired Write event(s) to remove"

@@ -6,7 +6,7 @@ use native.Mathlib.Omega.{arith}
 use lib.ListN.{length, drop}
 use lib.Seq.{drop-drop}
 use Rattle.cells.specs.Cells.{chunks, cells, cellAt}
-use Rattle.cleanup.specs.Positions.{upFrom, every, Below}
+use Rattle.cleanup.specs.Positions.{upFrom, every, AllBelow}
 
 pub length-up-from : (k n : ℕ) → length (upFrom k n) ≡ n
 length-up-from k zero = refl
@@ -23,13 +23,13 @@ up-from-none n i h =
     let e : n - i ≡ 0 = omega arith in
     rw e
 
-below-up-from : (k n : ℕ) → Below (k + n) (upFrom k n)
+below-up-from : (k n : ℕ) → AllBelow (k + n) (upFrom k n)
 below-up-from k zero = tt
 below-up-from k (suc n) =
     let e : k + 1 + n ≡ k + suc n = omega arith in
     (omega arith, rw e at (below-up-from (k + 1) n))
 
-pub below-all : (n : ℕ) → Below n (upFrom 0 n)
+pub below-all : (n : ℕ) → AllBelow n (upFrom 0 n)
 below-all n =
     let z : 0 + n ≡ n = omega arith in
     rw z at (below-up-from 0 n)

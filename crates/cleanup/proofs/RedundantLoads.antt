@@ -13,8 +13,8 @@ use Rattle.machine.specs.Run.{exec, on, seek}
 use Rattle.machine.specs.Records.{SameRecords}
 use Rattle.machine.proofs.Simulation.{Advance, Rel, Simulation, alike, same, same-by, stays}
 use Rattle.machine.proofs.Jumps.{both-map, plain}
-use Rattle.cleanup.specs.Marks.{loadOf, removable}
-use Rattle.cleanup.specs.Passes.{next, sweep}
+use Rattle.cleanup.specs.Marks.{removableLoad, removable}
+use Rattle.cleanup.specs.Sweeps.{next, sweep}
 use Rattle.cleanup.proofs.SweepLaws.{seek-sweep, sweep-keeps}
 
 set-set : (d : ℕ) (v w : Value) (r : Regs) → set d w (set d v r) ≡ set d w r
@@ -29,7 +29,7 @@ removable-is d e (i32 n) x = cc
 removable-is d e (u32 n) x = cc
 removable-is d e (fx n) x = cc
 
-load-is : (i : Ins) (d : ℕ) → loadOf i ≡ some d → (v : Const) × (i ≡ load d v)
+load-is : (i : Ins) (d : ℕ) → removableLoad i ≡ some d → (v : Const) × (i ≡ load d v)
 load-is (load e v) d x = (v, ap (λ k. load k v) (removable-is d e v x))
 load-is (comp c o e a b) d x = (u32 0, cc)
 load-is (label l) d x = (u32 0, cc)
@@ -38,7 +38,7 @@ load-is (jmpIf c l) d x = (u32 0, cc)
 load-is (ret s) d x = (u32 0, cc)
 load-is (act c e b) d x = (u32 0, cc)
 
-pub load-label : (i : Ins) (d : ℕ) → loadOf i ≡ some d → labelOf i ≡ none
+pub load-label : (i : Ins) (d : ℕ) → removableLoad i ≡ some d → labelOf i ≡ none
 load-label i d e = rw (load-is i d e .1)
 
 -- the registers agree, but for the one that the next cell loads
@@ -51,7 +51,7 @@ agree-refl none r = refl
 agree-refl (some d) r = λ w. refl
 
 abbrev ρ : Rel
-ρ p r q s = (q ≡ sweep plain loadOf loadOf p) × Agree (next plain loadOf p) r s
+ρ p r q s = (q ≡ sweep plain removableLoad removableLoad p) × Agree (next plain removableLoad p) r s
 
 module _ (P : List Ins) where
   exec-load : (i : Ins) (d : ℕ) (v : Const) (r : Regs) → i ≡ load d v → exec i r ≡ on (set d (con v) r)
@@ -60,31 +60,31 @@ module _ (P : List Ins) where
 
   module _ (i : Ins) (p : List Ins) (r : Regs) (q : List Ins) (s : Regs) where
     -- a cell that is no such load
-    advance-other : q ≡ i ∷ sweep plain loadOf loadOf p → r ≡ s → Advance P ρ i p r q s
-    advance-other x y = same (sweep plain loadOf loadOf p) x y (λ r′ _. (refl, agree-refl (next plain loadOf p) r′))
+    advance-other : q ≡ i ∷ sweep plain removableLoad removableLoad p → r ≡ s → Advance P ρ i p r q s
+    advance-other x y = same (sweep plain removableLoad removableLoad p) x y (λ r′ _. (refl, agree-refl (next plain removableLoad p) r′))
 
-    advance-load : (d : ℕ) (v : Const) → i ≡ load d v → loadOf i ≡ some d → q ≡ sweep plain loadOf loadOf (i ∷ p) → ((w : Value) → set d w r ≡ set d w s) → Advance P ρ i p r q s
-    advance-load d v e k x a = by-test (Ins.alike (loadOf i) (next plain loadOf p))
+    advance-load : (d : ℕ) (v : Const) → i ≡ load d v → removableLoad i ≡ some d → q ≡ sweep plain removableLoad removableLoad (i ∷ p) → ((w : Value) → set d w r ≡ set d w s) → Advance P ρ i p r q s
+    advance-load d v e k x a = by-test (Ins.alike (removableLoad i) (next plain removableLoad p))
         (λ y.
-        let (m, u, z) = alike-true (loadOf i) (next plain loadOf p) y in
-        let n : next plain loadOf p ≡ some d = z ∙ sym u ∙ k in
+        let (m, u, z) = alike-true (removableLoad i) (next plain removableLoad p) y in
+        let n : next plain removableLoad p ≡ some d = z ∙ sym u ∙ k in
         stays p (set d (con v) r) (λ O h. rw (exec-load i d v r e)) (x ∙ rw y, rw n (λ w. rw (set-set d (con v) w r) (a w))) (omega arith))
-        (λ y. alike i (sweep plain loadOf loadOf p) (set d (con v) r) (x ∙ rw y) (exec-load i d v r e) (exec-load i d v s e ∙ ap on (sym (a (con v)))) (refl, agree-refl (next plain loadOf p) (set d (con v) r)))
+        (λ y. alike i (sweep plain removableLoad removableLoad p) (set d (con v) r) (x ∙ rw y) (exec-load i d v r e) (exec-load i d v s e ∙ ap on (sym (a (con v)))) (refl, agree-refl (next plain removableLoad p) (set d (con v) r)))
 
     advance : ρ (i ∷ p) r q s → Advance P ρ i p r q s
-    advance x = go (loadOf i) refl (x .1)
+    advance x = go (removableLoad i) refl (x .1)
       where
-        go : (k : Option ℕ) → loadOf i ≡ k → Agree k r s → Advance P ρ i p r q s
+        go : (k : Option ℕ) → removableLoad i ≡ k → Agree k r s → Advance P ρ i p r q s
         go none e a = advance-other (x .0 ∙ rw e) a
         go (some d) e a = let (v, u) = load-is i d e in advance-load d v u e (x .0) a
 
-  simulation : Simulation P (sweep plain loadOf loadOf P) ρ
+  simulation : Simulation P (sweep plain removableLoad removableLoad P) ρ
   simulation = record {
     at-end = λ r q s x. x;
-    at-cell = λ i p r s x. sweep-keeps loadOf loadOf i p (x .0);
-    at-jump = λ l r. rw (seek-sweep loadOf loadOf load-label l P) (both-map ρ r (sweep plain loadOf loadOf) (seek l P) (λ p _. (refl, agree-refl (next plain loadOf p) r)));
+    at-cell = λ i p r s x. sweep-keeps removableLoad removableLoad i p (x .0);
+    at-jump = λ l r. rw (seek-sweep removableLoad removableLoad load-label l P) (both-map ρ r (sweep plain removableLoad removableLoad) (seek l P) (λ p _. (refl, agree-refl (next plain removableLoad p) r)));
     at-step = advance;
   }
 
-  pub redundant-loads-same : SameRecords P (sweep plain loadOf loadOf P)
-  redundant-loads-same = same-by P (sweep plain loadOf loadOf P) ρ simulation (λ r. (refl, agree-refl (next plain loadOf P) r))
+  pub redundant-loads-same : SameRecords P (sweep plain removableLoad removableLoad P)
+  redundant-loads-same = same-by P (sweep plain removableLoad removableLoad P) ρ simulation (λ r. (refl, agree-refl (next plain removableLoad P) r))

@@ -10,11 +10,11 @@ use Rattle.cells.specs.Ins.{Ins, act, labelOf, alike}
 use Rattle.cells.specs.View.{view}
 use Rattle.cells.specs.Lists.{tally, only}
 use Rattle.cells.proofs.Facts.{by-test, alike-true}
-use Rattle.sites.specs.Fit.{writeCapable}
+use Rattle.sites.specs.Sites.{writeCapable}
 use Rattle.sites.proofs.SameSites.{tally-same}
 use Rattle.sites.proofs.Actions.{not-capable}
-use Rattle.cleanup.specs.Marks.{terminal, jumpOf, loadOf}
-use Rattle.cleanup.specs.Passes.{dedupe, cutOff, reach, unreached, next, sweep, removeDuplicateConsecutiveLabels, removeUnreachableUntilLabel, removeNoopJumps, cleanup, removed}
+use Rattle.cleanup.specs.Marks.{terminal, jumpOf, removableLoad}
+use Rattle.cleanup.specs.Sweeps.{dedupe, cutOff, reach, unreached, next, sweep, removeDuplicateConsecutiveLabels, removeUnreachableUntilLabel, removeNoopJumps, cleanup, removed}
 use Rattle.cleanup.specs.Cleanup.{cleanCode}
 
 -- sweeps 1, 3 and 4 leave these cells as they are, and in order
@@ -47,5 +47,5 @@ split f u cs =
     let a = tally-same f u p₁ cs (only-dedupe none cs) in
     let b = tally-reach f false p₁ in
     let c = tally-same f u p₃ p₂ (only-sweep jumpOf labelOf (λ c d b. refl) p₂) in
-    let d = tally-same f u (cleanup view cs) p₃ (only-sweep loadOf loadOf (λ c d b. refl) p₃) in
+    let d = tally-same f u (cleanup view cs) p₃ (only-sweep removableLoad removableLoad (λ c d b. refl) p₃) in
     omega arith

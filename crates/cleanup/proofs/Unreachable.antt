@@ -5,28 +5,27 @@ use mathlib.Core.Option.{Option, none, some, Option·map}
 use mathlib.Core.List.{List, [], _∷_, nil≢cons}
 use Prim.Native.Nat.{ℕ}
 use Rattle.cells.specs.Ins.{Ins, load, comp, label, jmp, jmpIf, ret, act, labelOf, alike}
-use Rattle.cells.proofs.Facts.{by-test}
+use Rattle.cells.proofs.Facts.{by-test, and-true}
 use Rattle.machine.specs.Values.{Regs}
 use Rattle.machine.specs.Run.{exec, seek}
 use Rattle.machine.specs.Records.{SameRecords}
 use Rattle.machine.proofs.Simulation.{After, Rel, Simulation, same, same-by}
 use Rattle.machine.proofs.Jumps.{both-map, plain}
 use Rattle.cleanup.specs.Marks.{isThere, terminal}
-use Rattle.cleanup.specs.Passes.{reach}
+use Rattle.cleanup.specs.Sweeps.{reach}
 
 abbrev ρ : Rel
 ρ p r q s = (q ≡ reach plain false p) × (r ≡ s)
 
 -- what goes is no label
-gone : (b : Bool) (k : Option ℕ) → (b && not (isThere k)) ≡ true → k ≡ none
-gone true none e = refl
-gone true (some l) e = absurd (true≢false (sym e))
-gone false k e = absurd (true≢false (sym e))
+cut-off : (b : Bool) (k : Option ℕ) → (b && not (isThere k)) ≡ true → k ≡ none
+cut-off b none e = refl
+cut-off b (some l) e = absurd (true≢false (sym (and-true b false e .1)))
 
 pub seek-reach : (l : ℕ) (b : Bool) (p : List Ins) → seek l (reach plain b p) ≡ Option·map (reach plain false) (seek l p)
 seek-reach l b [] = refl
 seek-reach l b (i ∷ p) = by-test (b && not (isThere (labelOf i)))
-    (λ y. rw (y, gone b (labelOf i) y) (seek-reach l b p))
+    (λ y. rw (y, cut-off b (labelOf i) y) (seek-reach l b p))
     (λ y. by-test (alike (some l) (labelOf i))
     (λ z. rw (y, z))
     (λ z. rw (y, z) (seek-reach l (terminal i) p)))

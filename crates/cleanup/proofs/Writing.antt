@@ -1,19 +1,19 @@
 -- Cells written one after another over the start of an output.
 use mathlib.Core.Path.{_≡_, refl, sym, _∙_, ap, ap₂}
 use mathlib.Core.Bool.{Bool, true, false}
-use mathlib.Core.List.{List, [], _∷_, _++_, map, append-assoc, append-nil}
+use mathlib.Core.List.{List, [], _∷_, _++_, map, map-append, append-assoc, append-nil}
 use Prim.Native.Nat.{ℕ, suc, _+_, _-_, _*_, _/_, _≤_, _<_}
 use native.Mathlib.Omega.{arith}
 use native.Mathlib.Numerals.{add-one}
-use lib.ListN.{length, getD, take, drop, length-append, length-drop, drop-of-length-le}
-use lib.Seq.{take-suc, take-all, drop-cons}
+use lib.ListN.{length, getD, take, drop, length-append, drop-of-length-le}
+use lib.Seq.{take-suc, drop-cons}
 use Rattle.cells.specs.Cells.{Cell, cells, cellAt, flat, over}
 use Rattle.cells.specs.Lists.{only}
 use Rattle.cells.proofs.Cells.{length-cells, cell-at, length-cell-at, flat-append}
-use Rattle.cells.proofs.Over.{over-nil, over-take, over-drop, over-add, over-over, length-over}
-use Rattle.cleanup.specs.Written.{Kept}
+use Rattle.cells.proofs.Over.{over-nil, over-add, over-part, length-over}
+use Rattle.cleanup.specs.Output.{Kept}
 
--- the cells cs stand at the start, kept of them
+-- the cells cs, as many as are kept, stand over the start of the output
 pub record Writing (out₀ out : List ℕ) (cs : List Cell) (kept : ℕ) : Type 0 where
   pub long : length out ≡ length out₀
   pub size : length (flat cs) ≡ 16 * kept
@@ -38,13 +38,9 @@ writing-more {out₀} {out} {cs} {k} w out′ c l h e = record { long = rw is′
         (ap (λ (j : ℕ). take (16 * k) (over (flat cs) out₀) ++ (c ++ drop (16 * k + j) (over (flat cs) out₀))) (sym l)
         ∙ over-add (flat cs) c out₀ (16 * k) (w .size))
 
-map-append-one : (s p : List ℕ) (x : ℕ) → map (cellAt s) (p ++ x ∷ []) ≡ map (cellAt s) p ++ cellAt s x ∷ []
-map-append-one s [] x = refl
-map-append-one s (k ∷ p) x = ap (_∷_ (cellAt s k)) (map-append-one s p x)
-
 -- one more of the positions in a list
 pub listed-more : (s list : List ℕ) (i : ℕ) → i < length list → map (cellAt s) (take (i + 1) list) ≡ map (cellAt s) (take i list) ++ cellAt s (getD list i 0) ∷ []
-listed-more s list i h = rw (add-one, take-suc list i 0) (map-append-one s (take i list) (getD list i 0))
+listed-more s list i h = rw (add-one, take-suc list i 0) (map-append (cellAt s) (take i list) (getD list i 0 ∷ []))
 
 -- the cells from i on
 pub cells-cons : (s : List ℕ) (i : ℕ) → i < length s / 16 → drop i (cells s) ≡ cellAt s i ∷ drop (i + 1) (cells s)
@@ -106,12 +102,4 @@ module _ {f : Cell → Bool} {s out₀ out : List ℕ} {i kept : ℕ} (g : Sorti
 pub joined : (cs es : List Cell) (out₀ out part : List ℕ) (a : ℕ) → length (flat cs) ≡ a → a ≤ length out → out ≡ over (flat cs) out₀
     → part ≡ over (flat es) (take (length out - a) (drop a out))
     → take a out ++ (part ++ drop (length out - a) (drop a out)) ≡ over (flat (cs ++ es)) out₀
-joined cs es out₀ out part a e h x y =
-    let l : length (drop a out) ≤ length out - a = omega (arith, length-drop a out) in
-    let n : length (flat cs) ≤ a = omega arith in
-    let d : drop a out ≡ drop a out₀ = rw x (over-drop (flat cs) out₀ a n) in
-    let t : take a out ≡ flat cs = rw (x, ← e) (over-take (flat cs) out₀) in
-    let p : part ≡ over (flat es) (drop (length (flat cs)) out₀) = y ∙ ap (over (flat es)) (take-all (length out - a) (drop a out) l ∙ d ∙ ap (λ (j : ℕ). drop j out₀) (sym e)) in
-    let z : drop (length out - a) (drop a out) ≡ [] = drop-of-length-le (drop a out) l in
-    ap₂ (λ (u v : List ℕ). u ++ v) t (ap₂ (λ (u v : List ℕ). u ++ v) p z ∙ append-nil (over (flat es) (drop (length (flat cs)) out₀)))
-    ∙ over-over (flat cs) (flat es) out₀ ∙ ap (λ (u : List ℕ). over u out₀) (sym (flat-append cs es))
+joined cs es out₀ out part a e h x y = over-part (flat cs) (flat es) out₀ out part a e h x y ∙ ap (λ (u : List ℕ). over u out₀) (sym (flat-append cs es))

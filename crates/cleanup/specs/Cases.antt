@@ -1,24 +1,28 @@
--- Cleanup at worked functions: document 01's starred rows on labels and loads ('Cells on either edge'), and some for each sweep. One table, and
+-- Worked: cleanup at worked functions: document 01's starred rows on labels and loads ('Cells on either edge'), and some for each sweep. One table, and
 -- one theorem of all its rows.
 use mathlib.Core.Path.{_≡_, refl}
+use mathlib.Core.Bool.{Bool, true, false}
 use mathlib.Core.List.{List, [], _∷_, map}
+use mathlib.Core.Option.{none}
 use Prim.Native.Nat.{ℕ}
 use Rattle.cells.specs.Cells.{Cell}
+use Rattle.cells.specs.Ins.{Ins, label, jmp, ret}
 use Rattle.cells.specs.Table.{rows, classOf}
 use Rattle.cells.specs.View.{view}
-use Rattle.machine.specs.Runs.{Label, Jmp, JmpIf, Ret, RetNothing, LoadBool, LoadF64, LoadFx, LoadI32, LoadQ, LoadU32, AddI32, Assert, ClockRead, StoreVar}
+use Rattle.cells.specs.Assembler.{Label, Jmp, JmpIf, Ret, RetNothing, LoadBool, LoadF64, LoadFx, LoadI32, LoadQ, LoadU32, AddI32, Assert, ClockRead, StoreVar}
 use Rattle.cleanup.specs.Cleanup.{cleanCode, cleanCount}
+use Rattle.cleanup.specs.Premise.{onePlace}
 
 -- a function's instruction cells as sent, those handed back, and the count
-pub record Case : Type 0 where
+pub record FunctionCase : Type 0 where
   pub sent : List Cell
   pub back : List Cell
   pub count : ℕ
 
-abbrev pub case : List Cell → List Cell → ℕ → Case
+abbrev pub case : List Cell → List Cell → ℕ → FunctionCase
 case s b n = record { sent = s; back = b; count = n }
 
-abbrev pub cases : List Case
+abbrev pub cases : List FunctionCase
 cases =
     -- * Label 1, Jmp 1, Label 1 becomes Label 1, Label 1; count 1
     case (Label 1 ∷ Jmp 1 ∷ Label 1 ∷ []) (Label 1 ∷ Label 1 ∷ []) 1
@@ -54,6 +58,33 @@ cases =
     3
     ∷ []
 
-pub cases-hold : map (λ (c : Case). case (c .sent) (cleanCode (c .sent)) (cleanCount (c .sent))) cases ≡ cases
+pub cases-hold : map (λ (c : FunctionCase). case (c .sent) (cleanCode (c .sent)) (cleanCount (c .sent))) cases ≡ cases
 unfolding cleanCode cleanCount view classOf rows
 cases-hold = refl
+
+-- ---- the premise
+
+-- worked functions, and whether each label name stands at one place
+pub record PlaceCase : Type 0 where
+  pub cells : List Ins
+  pub once : Bool
+
+abbrev pub placed : List Ins → Bool → PlaceCase
+placed p b = record { cells = p; once = b }
+
+abbrev pub placeCases : List PlaceCase
+placeCases =
+    placed [] true
+    ∷ placed (jmp 1 ∷ ret none ∷ []) true
+    ∷ placed (label 1 ∷ jmp 1 ∷ label 2 ∷ []) true
+    -- twice in a row, with a cell between, and apart
+    ∷ placed (jmp 1 ∷ label 1 ∷ label 1 ∷ ret none ∷ []) true
+    ∷ placed (label 1 ∷ jmp 1 ∷ label 1 ∷ []) false
+    ∷ placed (label 1 ∷ label 2 ∷ jmp 2 ∷ ret none ∷ label 1 ∷ []) false
+    -- two names, one after the other and interleaved
+    ∷ placed (label 1 ∷ label 1 ∷ label 2 ∷ label 2 ∷ []) true
+    ∷ placed (label 1 ∷ label 2 ∷ label 1 ∷ []) false
+    ∷ []
+
+pub place-cases-hold : map (λ (c : PlaceCase). placed (c .cells) (onePlace (c .cells))) placeCases ≡ placeCases
+place-cases-hold = refl

@@ -1,11 +1,10 @@
--- Cleanup of a function: its instruction cells, its events and the count (document 01, module 4).
+-- Promise: cleanup of a function: its instruction cells, its events and the count (document 01, module 4).
 use Prim.Native.Nat.{ℕ, _+_, _-_}
-use mathlib.Core.List.{List, [], _∷_}
-use mathlib.Core.Bool.{Bool, true, false, cond, _||_, not}
+use mathlib.Core.List.{List}
+use mathlib.Core.Bool.{Bool, false, _||_, not}
 use lib.ListN.{length}
 use Rattle.cells.specs.Cells.{Cell}
 use Rattle.cells.specs.Functions.{Function, newHead}
-use Rattle.cells.specs.Ins.{Ins}
 use Rattle.cells.specs.Lists.{only}
 use Rattle.cells.specs.View.{view}
 use Rattle.sites.specs.Sites.{siteOf, eventSite, stands}
@@ -13,7 +12,7 @@ use Rattle.sites.specs.declared.Site.{Site}
 use Rattle.sites.specs.declared.Site.the-variants.{Absent, At}
 use Rattle.sites.specs.declared.Which.{Which}
 use Rattle.sites.specs.declared.Which.the-variants.{Activation, Write}
-use Rattle.cleanup.specs.Passes.{removeDuplicateConsecutiveLabels, removeUnreachableUntilLabel, removeNoopJumps, removeRedundantConsecutiveLoads, cleanup, removed}
+use Rattle.cleanup.specs.Sweeps.{removeDuplicateConsecutiveLabels, removeUnreachableUntilLabel, removeNoopJumps, removeRedundantConsecutiveLoads, cleanup, removed}
 
 -- a site is there, and stands on one of the cells gone
 abbrev pub onGone : Which → List Cell → Site → Bool

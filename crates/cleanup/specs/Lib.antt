@@ -1,11 +1,11 @@
 pub mod Marks
-pub mod Passes
+pub mod Sweeps
 pub mod Cleanup
 pub mod Premise
 pub mod Errors
-pub mod KeptEvents
 pub mod Cases
 pub mod Reading
+pub mod ByKind
 pub mod Positions
 pub mod Receipts
-pub mod Written
+pub mod Output

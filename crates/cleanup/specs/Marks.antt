@@ -1,4 +1,4 @@
--- What cleanup's four sweeps read of an instruction (document 01, module 4).
+-- Promise: what cleanup's four sweeps read of an instruction (document 01, module 4).
 use mathlib.Core.Bool.{Bool, true, false}
 use mathlib.Core.Option.{Option, none, some}
 use Prim.Native.Nat.{ℕ}
@@ -37,11 +37,11 @@ removable d (i32 n) = some d
 removable d (u32 n) = none
 removable d (fx n) = some d
 
-abbrev pub loadOf : Ins → Option ℕ
-loadOf (load d v) = removable d v
-loadOf (comp c o d a b) = none
-loadOf (label l) = none
-loadOf (jmp l) = none
-loadOf (jmpIf c l) = none
-loadOf (ret s) = none
-loadOf (act c d b) = none
+abbrev pub removableLoad : Ins → Option ℕ
+removableLoad (load d v) = removable d v
+removableLoad (comp c o d a b) = none
+removableLoad (label l) = none
+removableLoad (jmp l) = none
+removableLoad (jmpIf c l) = none
+removableLoad (ret s) = none
+removableLoad (act c d b) = none

@@ -1,4 +1,4 @@
--- The sweeps over the positions of a function's instruction cells, as the code has them.
+-- Inner: the sweeps over the positions of a function's instruction cells, as the code has them.
 use mathlib.Core.Path.{_≡_}
 use mathlib.Core.List.{List, [], _∷_}
 use Prim.Native.Nat.{ℕ, zero, suc, _+_, _/_, _≤_, _<_}
@@ -7,7 +7,7 @@ use Rattle.cells.specs.Cells.{cellAt, over}
 use Rattle.cells.specs.Ins.{Ins}
 use Rattle.cells.specs.Lists.{All}
 use Rattle.cells.specs.View.{view}
-use Rattle.cleanup.specs.Passes.{removeDuplicateConsecutiveLabels, removeUnreachableUntilLabel, removeNoopJumps, removeRedundantConsecutiveLoads}
+use Rattle.cleanup.specs.Sweeps.{removeDuplicateConsecutiveLabels, removeUnreachableUntilLabel, removeNoopJumps, removeRedundantConsecutiveLoads}
 
 -- what the cell at a position is
 abbrev pub seeAt : List ℕ → ℕ → Ins
@@ -18,18 +18,13 @@ abbrev pub upFrom : ℕ → ℕ → List ℕ
 upFrom k zero = []
 upFrom k (suc n) = k ∷ upFrom (k + 1) n
 
-abbrev pub Below : ℕ → List ℕ → Type 0
-Below m ks = All (λ (k : ℕ). k < m) ks
+abbrev pub AllBelow : ℕ → List ℕ → Type 0
+AllBelow m ks = All (λ (k : ℕ). k < m) ks
 
 -- the first n of a list are positions of the instruction part
-pub record Listed (code list : List ℕ) (n : ℕ) : Type 0 where
+pub record PositionsListed (code list : List ℕ) (n : ℕ) : Type 0 where
   pub room : n ≤ length list
-  pub below : Below (length code / 16) (take n list)
-
--- what a sweep leaves stands at the start of the list, as many as it answers; behind it the list keeps its values
-pub record Swept (left before after : List ℕ) (r : ℕ) : Type 0 where
-  pub list : after ≡ over left before
-  pub count : r ≡ length left
+  pub below : AllBelow (length code / 16) (take n list)
 
 -- all positions, and those that each sweep leaves
 abbrev pub every : List ℕ → List ℕ

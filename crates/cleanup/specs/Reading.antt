@@ -1,28 +1,23 @@
--- What the code reads of an instruction: a number that may be there, and what a command is to the sweeps.
-use mathlib.Core.Bool.{Bool, true, false}
+-- Inner: what the code reads of an instruction: what its command is to the sweeps, and its first operand.
+use mathlib.Core.Bool.{Bool, true, false, cond}
 use mathlib.Core.Option.{Option, none, some}
-use Prim.Native.Nat.{ℕ}
-use Rattle.cells.specs.Ins.{Ins, labelOf}
+use mathlib.Core.List.{List}
+use Prim.Native.Nat.{ℕ, _+_, _*_}
+use lib.Dec.{eqb}
+use Rattle.cells.specs.Bytes.{byte, half}
+use Rattle.cells.specs.Table.{classOf}
 use Rattle.cells.specs.declared.table.Class.{Class}
 use Rattle.cells.specs.declared.table.Class.the-variants.{NoCommand, LoadQ, LoadBool, LoadF64, LoadI32, LoadU32, LoadFx, Unary, Binary, Label as «LabelClass», Jmp as «JmpClass», JmpIf, Ret as «RetClass», Act, ActDst, ActOptDst}
-use Rattle.cleanup.specs.Marks.{jumpOf, loadOf}
 use Rattle.cleanup.specs.declared.marks.Key.{Key}
 use Rattle.cleanup.specs.declared.marks.Key.the-variants.{Nothing, Of}
 use Rattle.cleanup.specs.declared.marks.Mark.{Mark}
 use Rattle.cleanup.specs.declared.marks.Mark.the-variants.{Other, Label, Jmp, Ret, Load}
+use Rattle.cleanup.specs.declared.marks.Seen.{Seen}
 
 -- a number that may be there
 abbrev pub keyOf : Key → Option ℕ
 keyOf Nothing = none
 keyOf (Of n) = some n
-
--- what a sweep reads of an instruction by a mark
-abbrev pub markOf : Mark → Ins → Option ℕ
-markOf Other i = none
-markOf Label i = labelOf i
-markOf Jmp i = jumpOf i
-markOf Ret i = none
-markOf Load i = loadOf i
 
 -- the mark of each class
 abbrev pub classMark : Class → Mark
@@ -43,38 +38,29 @@ classMark Act = Other
 classMark ActDst = Other
 classMark ActOptDst = Other
 
-abbrev pub isLabel : Mark → Bool
-isLabel Other = false
-isLabel Label = true
-isLabel Jmp = false
-isLabel Ret = false
-isLabel Load = false
+-- the cell at a position
+abbrev pub seenAt : List ℕ → ℕ → Seen
+seenAt s k = record { mark = classMark (classOf (byte s (16 * k))); operand = half s (16 * k + 1) }
 
-abbrev pub isJmp : Mark → Bool
-isJmp Other = false
-isJmp Label = false
-isJmp Jmp = true
-isJmp Ret = false
-isJmp Load = false
+-- the mark found is the one asked for
+abbrev pub markNumber : Mark → ℕ
+markNumber Other = 0
+markNumber Label = 1
+markNumber Jmp = 2
+markNumber Ret = 3
+markNumber Load = 4
 
-abbrev pub isLoad : Mark → Bool
-isLoad Other = false
-isLoad Label = false
-isLoad Jmp = false
-isLoad Ret = false
-isLoad Load = true
+abbrev pub isAsked : Mark → Mark → Bool
+isAsked asked found = eqb (markNumber asked) (markNumber found)
 
+-- the operand of a cell with the mark asked for
+abbrev pub operandOf : Mark → Seen → Option ℕ
+operandOf asked s = cond (isAsked asked (s .mark)) (some (s .operand)) none
+
+-- Ret or Jmp
 abbrev pub isTerminal : Mark → Bool
 isTerminal Other = false
 isTerminal Label = false
 isTerminal Jmp = true
 isTerminal Ret = true
 isTerminal Load = false
-
--- the mark found is the one asked for, and has an operand
-abbrev pub has : Mark → Mark → Bool
-has Other m = false
-has Label m = isLabel m
-has Jmp m = isJmp m
-has Ret m = false
-has Load m = isLoad m

@@ -1,25 +1,14 @@
--- The sites of removed cells as lists of numbers, and the events that such lists spare.
-use mathlib.Core.List.{List, [], _∷_}
+-- Inner: the events that lists of the sites of removed cells spare.
+use mathlib.Core.List.{List}
 use mathlib.Core.Bool.{Bool, false, _||_, not}
 use Prim.Native.Nat.{ℕ}
 use lib.Dec.{eqb}
 use Rattle.cells.specs.Cells.{Cell}
 use Rattle.cells.specs.Lists.{any}
-use Rattle.sites.specs.Sites.{siteOf, eventSite}
+use Rattle.sites.specs.Sites.{eventSite}
 use Rattle.sites.specs.declared.Site.{Site}
 use Rattle.sites.specs.declared.Site.the-variants.{Absent, At}
-use Rattle.sites.specs.declared.Which.{Which}
 use Rattle.sites.specs.declared.Which.the-variants.{Activation, Write}
-
--- a site's number before others
-abbrev pub withSite : Site → List ℕ → List ℕ
-withSite Absent xs = xs
-withSite (At x) xs = x ∷ xs
-
--- the sites on cells, in order
-abbrev pub sitesOn : Which → List Cell → List ℕ
-sitesOn w [] = []
-sitesOn w (c ∷ cs) = withSite (siteOf w c) (sitesOn w cs)
 
 -- a site is there, and is one of these
 abbrev pub among : List ℕ → Site → Bool

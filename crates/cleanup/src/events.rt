@@ -3,40 +3,62 @@ use crate::marks;
 use crate::marks::Mark;
 use cells::check::MAX_INSTRUCTIONS;
 use cells::read::CELL;
-use sites::Part;
+use cells::walk::Part;
+use sites::FEW;
 use sites::Site;
 use sites::Which;
 ghost use mathlib.Core.Path.{_≡_};
-ghost use Prim.Native.Nat.{ℕ, _/_, _≤_, _<_};
+ghost use Prim.Native.Nat.{_/_, _≤_, _<_};
 ghost use lib.ListN.{length, take};
-ghost use Rattle.cells.specs.Cells.{cells};
+ghost use Rattle.cells.specs.Check.{maxInstructions};
+ghost use Rattle.cells.specs.Cells.{cells, over, Put};
 ghost use Rattle.cells.specs.Lists.{only};
 ghost use Rattle.cells.specs.View.{view};
-ghost use Rattle.cleanup.specs.Passes.{removed};
+ghost use Rattle.sites.specs.Sites.{siteOf, sitesOn};
+ghost use Rattle.cleanup.specs.Sweeps.{removed};
 ghost use Rattle.cleanup.specs.Cleanup.{cleanEvents};
-ghost use Rattle.cleanup.specs.Positions.{Swept};
-ghost use Rattle.cleanup.specs.Receipts.{sitesOn, among as «amongOf», spared};
-ghost use Rattle.cleanup.specs.Written.{Kept};
+ghost use Rattle.cleanup.specs.Receipts.{among as «amongOf», spared};
+ghost use Rattle.cleanup.specs.Output.{Kept};
 
 // Writes the events that stay; how many.
 pub fn retain_events(code: &[u8], events: &[u8], out: &mut [u8]) -> usize
-    requires { ⌜ (length (now code) / 16 ≤ 2048) × (length (now events) / 16 ≤ length (now out) / 16) ⌝ }
+    requires { ⌜ (length (now code) / 16 ≤ maxInstructions) × (length (now events) / 16 ≤ length (now out) / 16) ⌝ }
     ensures { λ r. ⌜ Kept (cleanEvents (cells (now (code .entry))) (cells (now (events .entry)))) (now (out .entry)) (now (out .exit)) r ⌝ }
 {
     if events.len() < CELL {
         return 0;
     }
-    let mut activations = [0usize; MAX_INSTRUCTIONS];
-    let mut writes = [0usize; MAX_INSTRUCTIONS];
-    let a = removed_sites(code, Which::Activation, &mut activations);
-    let w = removed_sites(code, Which::Write, &mut writes);
-    copy_spared(events, &activations, a, &writes, w, out)
+    if code.len() / CELL <= FEW {
+        let mut activations = [0u32; FEW];
+        let mut writes = [0u32; FEW];
+        return retain_by(code, events, &mut activations, &mut writes, out);
+    }
+    let mut activations = [0u32; MAX_INSTRUCTIONS];
+    let mut writes = [0u32; MAX_INSTRUCTIONS];
+    retain_by(code, events, &mut activations, &mut writes, out)
+}
+
+// With two lists for the sites on the cells removed.
+fn retain_by(
+    code: &[u8],
+    events: &[u8],
+    activations: &mut [u32],
+    writes: &mut [u32],
+    out: &mut [u8],
+) -> usize
+    requires { ⌜ (length (now code) / 16 ≤ length (now activations)) × (length (now code) / 16 ≤ length (now writes)) × (length (now events) / 16 ≤ length (now out) / 16) ⌝ }
+    ensures { λ r. ⌜ Kept (cleanEvents (cells (now (code .entry))) (cells (now (events .entry)))) (now (out .entry)) (now (out .exit)) r ⌝ }
+    ensures { λ _. ⌜ (now (activations .exit) ≡ over (sitesOn (siteOf Which.Activation) (removed view (cells (now (code .entry))))) (now (activations .entry))) × (now (writes .exit) ≡ over (sitesOn (siteOf Which.Write) (removed view (cells (now (code .entry))))) (now (writes .entry))) ⌝ }
+{
+    let a = removed_sites(code, Which::Activation, activations);
+    let w = removed_sites(code, Which::Write, writes);
+    copy_spared(events, activations, a, writes, w, out)
 }
 
 // The sites on the cells removed, at the start of the list; how many.
-fn removed_sites(code: &[u8], which: Which, list: &mut [usize]) -> usize
+fn removed_sites(code: &[u8], which: Which, list: &mut [u32]) -> usize
     requires { ⌜ length (now code) / 16 ≤ length (now list) ⌝ }
-    ensures { λ r. ⌜ Swept (sitesOn which (removed view (cells (now (code .entry))))) (now (list .entry)) (now (list .exit)) r ⌝ }
+    ensures { λ r. ⌜ Put (sitesOn (siteOf which) (removed view (cells (now (code .entry))))) (now (list .entry)) (now (list .exit)) r ⌝ }
 {
     let n = code.len() / CELL;
     let mut found: usize = 0;
@@ -45,14 +67,16 @@ fn removed_sites(code: &[u8], which: Which, list: &mut [usize]) -> usize
     while k < n {
         let here = k;
         k += 1;
-        if unreachable & !marks::is_there(marks::mark_at(code, here, Mark::Label)) {
+        let cell = marks::seen_at(code, here);
+        if unreachable & !marks::is_there(marks::operand_of(Mark::Label, cell)) {
             let site = sites::site_by(code, Part::Code, which, here);
             if let Site::At(x) = site {
                 list[found] = x;
                 found += 1;
             }
         } else {
-            unreachable = marks::terminal_at(code, here);
+            let mark = cell.mark;
+            unreachable = marks::is_terminal(mark);
         }
     }
     found
@@ -61,9 +85,9 @@ fn removed_sites(code: &[u8], which: Which, list: &mut [usize]) -> usize
 // Writes the events with no activation site among the first a of a list and no write site among the first w of another; how many.
 fn copy_spared(
     events: &[u8],
-    activations: &[usize],
+    activations: &[u32],
     a: usize,
-    writes: &[usize],
+    writes: &[u32],
     w: usize,
     out: &mut [u8],
 ) -> usize
@@ -95,7 +119,7 @@ fn copy_spared(
 }
 
 // Whether a site is there, and is one of the first n of a list.
-fn among(list: &[usize], n: usize, site: Site) -> bool
+fn among(list: &[u32], n: usize, site: Site) -> bool
     requires { ⌜ n ≤ length (now list) ⌝ }
     ensures { λ r. ⌜ r ≡ amongOf (take n (now (list .entry))) site ⌝ }
 {

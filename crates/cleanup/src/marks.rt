@@ -2,12 +2,11 @@
 use cells::read::CELL;
 use cells::table::Class;
 ghost use mathlib.Core.Path.{_≡_};
-ghost use Prim.Native.Nat.{ℕ, _/_, _<_};
+ghost use Prim.Native.Nat.{_/_, _<_};
 ghost use lib.ListN.{length};
 ghost use Rattle.cells.specs.Ins.{alike as «alikeOf»};
-ghost use Rattle.cleanup.specs.Marks.{isThere, terminal};
-ghost use Rattle.cleanup.specs.Reading.{keyOf, markOf, classMark, has as «hasOf», isLabel, isJmp, isLoad, isTerminal};
-ghost use Rattle.cleanup.specs.Positions.{seeAt};
+ghost use Rattle.cleanup.specs.Marks.{isThere};
+ghost use Rattle.cleanup.specs.Reading.{keyOf, classMark, markNumber, isAsked, operandOf, isTerminal, seenAt};
 
 // A number that may be there.
 pub enum Key {
@@ -24,25 +23,46 @@ pub enum Mark {
     Load,
 }
 
-// The first operand of the cell at a position, where the cell has the mark: a label's name, a jump's label, a load's register.
-pub fn mark_at(code: &[u8], k: usize, mark: Mark) -> Key
+// A cell's mark and its first operand: a label's name, a jump's label, a load's register.
+pub struct Seen {
+    pub mark: Mark,
+    pub operand: usize,
+}
+
+// The cell at a position.
+pub fn seen_at(code: &[u8], k: usize) -> Seen
     requires { ⌜ k < length (now code) / 16 ⌝ }
-    ensures { λ r. ⌜ keyOf r ≡ markOf mark (seeAt (now (code .entry)) k) ⌝ }
+    ensures { λ r. ⌜ r ≡ seenAt (now (code .entry)) k ⌝ }
 {
     let a = CELL * k;
-    if has(mark, class_mark(cells::table::class_of(code[a]))) {
-        Key::Of(cells::read::half(code, a + 1))
+    let mark = class_mark(cells::table::class_of(code[a]));
+    let operand = cells::read::half(code, a + 1);
+    Seen { mark, operand }
+}
+
+// The operand of a cell with the mark asked for.
+pub fn operand_of(asked: Mark, s: Seen) -> Key
+    ensures { λ r. ⌜ keyOf r ≡ operandOf asked s ⌝ }
+{
+    let found = s.mark;
+    if is_asked(asked, found) {
+        Key::Of(s.operand)
     } else {
         Key::Nothing
     }
 }
 
-// Whether the cell at a position is a Ret or Jmp.
-pub fn terminal_at(code: &[u8], k: usize) -> bool
-    requires { ⌜ k < length (now code) / 16 ⌝ }
-    ensures { λ r. ⌜ r ≡ terminal (seeAt (now (code .entry)) k) ⌝ }
+// Whether it is a Ret or Jmp.
+pub fn is_terminal(mark: Mark) -> bool
+    ensures { λ r. ⌜ r ≡ isTerminal mark ⌝ }
 {
-    is_terminal(class_mark(cells::table::class_of(code[CELL * k])))
+    match mark {
+        Mark::Other => false,
+        Mark::Label => false,
+        Mark::Jmp => true,
+        Mark::Ret => true,
+        Mark::Load => false,
+    }
 }
 
 // Whether two numbers are there, and equal.
@@ -67,6 +87,24 @@ pub fn is_there(a: Key) -> bool
     }
 }
 
+fn is_asked(asked: Mark, found: Mark) -> bool
+    ensures { λ r. ⌜ r ≡ isAsked asked found ⌝ }
+{
+    mark_number(asked) == mark_number(found)
+}
+
+fn mark_number(mark: Mark) -> u8
+    ensures { λ r. ⌜ r ≡ markNumber mark ⌝ }
+{
+    match mark {
+        Mark::Other => 0,
+        Mark::Label => 1,
+        Mark::Jmp => 2,
+        Mark::Ret => 3,
+        Mark::Load => 4,
+    }
+}
+
 fn class_mark(class: Class) -> Mark
     ensures { λ r. ⌜ r ≡ classMark class ⌝ }
 {
@@ -87,66 +125,5 @@ fn class_mark(class: Class) -> Mark
         Class::Act => Mark::Other,
         Class::ActDst => Mark::Other,
         Class::ActOptDst => Mark::Other,
-    }
-}
-
-// Whether a cell whose mark is found has the mark asked for, and an operand to it.
-fn has(asked: Mark, found: Mark) -> bool
-    ensures { λ r. ⌜ r ≡ hasOf asked found ⌝ }
-{
-    match asked {
-        Mark::Other => false,
-        Mark::Label => is_label(found),
-        Mark::Jmp => is_jmp(found),
-        Mark::Ret => false,
-        Mark::Load => is_load(found),
-    }
-}
-
-fn is_label(mark: Mark) -> bool
-    ensures { λ r. ⌜ r ≡ isLabel mark ⌝ }
-{
-    match mark {
-        Mark::Other => false,
-        Mark::Label => true,
-        Mark::Jmp => false,
-        Mark::Ret => false,
-        Mark::Load => false,
-    }
-}
-
-fn is_jmp(mark: Mark) -> bool
-    ensures { λ r. ⌜ r ≡ isJmp mark ⌝ }
-{
-    match mark {
-        Mark::Other => false,
-        Mark::Label => false,
-        Mark::Jmp => true,
-        Mark::Ret => false,
-        Mark::Load => false,
-    }
-}
-
-fn is_load(mark: Mark) -> bool
-    ensures { λ r. ⌜ r ≡ isLoad mark ⌝ }
-{
-    match mark {
-        Mark::Other => false,
-        Mark::Label => false,
-        Mark::Jmp => false,
-        Mark::Ret => false,
-        Mark::Load => true,
-    }
-}
-
-fn is_terminal(mark: Mark) -> bool
-    ensures { λ r. ⌜ r ≡ isTerminal mark ⌝ }
-{
-    match mark {
-        Mark::Other => false,
-        Mark::Label => false,
-        Mark::Jmp => true,
-        Mark::Ret => true,
-        Mark::Load => false,
     }
 }

@@ -1,7 +1,7 @@
--- What a cell does to the fold, by its command. Assumes nothing.
-use mathlib.Core.Path.{_≡_, refl, sym, ap, _∙_}
+-- What a cell does to the fold, by its command.
+use mathlib.Core.Path.{_≡_, refl, ap}
 use mathlib.Core.Bool.{Bool, true, false, cond}
-use mathlib.Core.Option.{Option, none, some}
+use mathlib.Core.Option.{none, some}
 use Prim.Native.Nat.{ℕ, _<_}
 use Rattle.cells.specs.Bytes.{byte}
 use Rattle.cells.specs.Cells.{Cell}
@@ -11,11 +11,11 @@ use Rattle.cells.specs.Ins.{Const, Ins, load, comp, label, jmp, jmpIf, ret, act
 use Rattle.cells.specs.View.{view, viewAs, Registers}
 use Rattle.cells.specs.declared.table.Class.{Class}
 use Rattle.machine.specs.Values.{valueOf}
-use Rattle.crystalfold.specs.Rules.{Rules}
-use Rattle.crystalfold.specs.Fold.{Table, unknown, note, fold₂, foldedTo, dstOf, known}
+use Rattle.crystalfold.specs.Rules.{Rules, fold₂}
+use Rattle.crystalfold.specs.Fold.{Table, unknown, note, foldedTo, dstOf, knownAfter}
 use Rattle.crystalfold.specs.declared.command.Command.{Command}
 use Rattle.crystalfold.specs.declared.command.Command.the-variants.{Barrier, Load, Compute, Forget, Other}
-use Rattle.crystalfold.specs.Commands.{commandIn, commandOf, acting, forgetting}
+use Rattle.crystalfold.specs.Commands.{commandIn, commandOf, forgetting}
 
 pub by-class : (c : Cell) {k : Class} → k ≡ classOf (byte c 0) → commandIn (viewAs k c) ≡ commandOf c
 unfolding commandOf view
@@ -27,11 +27,11 @@ forget-optional false d = refl
 
 -- what an instruction of a command is folded to, and what is known after it
 abbrev pub Effect : Rules → Table → Ins → Command → Type 0
-Effect f t i Barrier = (foldedTo f t i ≡ none) × (known f t i ≡ unknown)
-Effect f t i (Load d v) = (foldedTo f t i ≡ none) × ((k : Const) × (valueOf k ≡ v) × (known f t i ≡ note d (some k) t))
-Effect f t i (Compute o d a b) = (foldedTo f t i ≡ fold₂ (f o) (t a) (t b)) × (dstOf i ≡ d) × (known f t i ≡ note d (fold₂ (f o) (t a) (t b)) t)
-Effect f t i (Forget d) = (foldedTo f t i ≡ none) × (known f t i ≡ note d none t)
-Effect f t i Other = (foldedTo f t i ≡ none) × (known f t i ≡ t)
+Effect f t i Barrier = (foldedTo f t i ≡ none) × (knownAfter f t i ≡ unknown)
+Effect f t i (Load d v) = (foldedTo f t i ≡ none) × ((k : Const) × (valueOf k ≡ v) × (knownAfter f t i ≡ note d (some k) t))
+Effect f t i (Compute o d a b) = (foldedTo f t i ≡ fold₂ (f o) (t a) (t b)) × (dstOf i ≡ d) × (knownAfter f t i ≡ note d (fold₂ (f o) (t a) (t b)) t)
+Effect f t i (Forget d) = (foldedTo f t i ≡ none) × (knownAfter f t i ≡ note d none t)
+Effect f t i Other = (foldedTo f t i ≡ none) × (knownAfter f t i ≡ t)
 
 pub effect : (f : Rules) (t : Table) (i : Ins) → Effect f t i (commandIn i)
 effect f t (load d v) = (refl, (v, refl, refl))

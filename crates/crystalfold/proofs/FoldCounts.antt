@@ -9,25 +9,25 @@ use Rattle.cells.specs.Cells.{Cell}
 use Rattle.cells.specs.Ins.{Const}
 use Rattle.cells.specs.View.{view, loadCell}
 use Rattle.crystalfold.specs.Rules.{Rules}
-use Rattle.crystalfold.specs.Fold.{Table, unknown, foldedTo, known, oneIf, foldCount, fold}
+use Rattle.crystalfold.specs.Fold.{Table, unknown, foldedTo, knownAfter, oneIf, foldCount, fold}
 use Rattle.crystalfold.specs.CrystalFold.{foldCode, foldsOf}
+
+pub at-most-one : (k : Option Const) → oneIf k ≤ 1
+at-most-one none = omega arith
+at-most-one (some v) = omega arith
 
 module _ (f : Rules) where
   fold-length : (t : Table) (p : List Cell) → length (fold view f loadCell t p) ≡ length p
   fold-length t [] = refl
-  fold-length t (c ∷ p) = omega (arith, fold-length (known f t (view c)) p)
+  fold-length t (c ∷ p) = omega (arith, fold-length (knownAfter f t (view c)) p)
 
   pub length-folded : (cs : List Cell) → length (foldCode f cs) ≡ length cs
   unfolding foldCode
   length-folded cs = fold-length unknown cs
 
-  one-at-most : (k : Option Const) → oneIf k ≤ 1
-  one-at-most none = omega arith
-  one-at-most (some v) = omega arith
-
   count-few : (t : Table) (p : List Cell) → foldCount view f t p ≤ length p
   count-few t [] = omega arith
-  count-few t (c ∷ p) = omega (arith, one-at-most (foldedTo f t (view c)), count-few (known f t (view c)) p)
+  count-few t (c ∷ p) = omega (arith, at-most-one (foldedTo f t (view c)), count-few (knownAfter f t (view c)) p)
 
   pub folds-few : (cs : List Cell) → foldsOf f cs ≤ length cs
   unfolding foldsOf

@@ -8,7 +8,7 @@ use Rattle.cells.proofs.Facts.{by-test, alike-true, label-is}
 use Rattle.machine.specs.Run.{seek}
 use Rattle.machine.proofs.Jumps.{plain}
 use Rattle.crystalfold.specs.Rules.{Rules}
-use Rattle.crystalfold.specs.Fold.{Table, unknown, foldedTo, dstOf, known, asLoad, fold}
+use Rattle.crystalfold.specs.Fold.{Table, unknown, foldedTo, dstOf, knownAfter, asLoad, fold}
 
 module _ (f : Rules) where
   -- a cell, and a list of cells, by what they are
@@ -41,4 +41,4 @@ module _ (f : Rules) where
   seek-fold l t [] = refl
   seek-fold l t (i ∷ p) = rw (folded-label t i) (by-test (alike (some l) (labelOf i))
       (λ y. let (m, u, v) = alike-true (some l) (labelOf i) y in rw y (ap some (at-label t i p m v)))
-      (λ y. rw y (seek-fold l (known f t i) p)))
+      (λ y. rw y (seek-fold l (knownAfter f t i) p)))

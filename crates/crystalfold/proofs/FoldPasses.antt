@@ -12,15 +12,14 @@ use Rattle.cells.specs.View.{view, loadCell}
 use Rattle.cells.specs.Lists.{only}
 use Rattle.cells.specs.declared.refusal.Checked.the-variants.{Good}
 use Rattle.cells.proofs.Facts.{by-test}
-use Rattle.sites.specs.Sites.{isStoreVar, siteOf, times}
+use Rattle.sites.specs.Sites.{isStoreVar, siteOf, times, writeCapable}
 use Rattle.sites.specs.Validators.{validateActivationSites, validateWriteSites, siteCheck}
-use Rattle.sites.specs.Fit.{writeCapable}
 use Rattle.sites.specs.declared.Which.{Which}
-use Rattle.sites.proofs.Tally.{only-only}
+use Rattle.cells.proofs.Lists.{only-only}
 use Rattle.sites.proofs.SameSites.{sites-same, same-passes, same-activation, same-write}
 use Rattle.sites.proofs.Actions.{not-capable}
 use Rattle.crystalfold.specs.Rules.{Rules}
-use Rattle.crystalfold.specs.Fold.{Table, unknown, foldedTo, dstOf, known, asLoad, fold}
+use Rattle.crystalfold.specs.Fold.{Table, unknown, foldedTo, dstOf, knownAfter, asLoad, fold}
 use Rattle.crystalfold.specs.CrystalFold.{foldCode, foldFunction}
 use Rattle.crystalfold.specs.Fingerprints.{storeVarFingerprint, writeSiteFingerprint}
 
@@ -37,7 +36,7 @@ load-bare d (fx n) = refl
 module _ (f : Rules) where
   pub only-fold : (t : Table) (p : List Cell) → only writeCapable (fold view f loadCell t p) ≡ only writeCapable p
   only-fold t [] = refl
-  only-fold t (c ∷ p) = go (foldedTo f t (view c)) refl (fold view f loadCell (known f t (view c)) p) (only-fold (known f t (view c)) p)
+  only-fold t (c ∷ p) = go (foldedTo f t (view c)) refl (fold view f loadCell (knownAfter f t (view c)) p) (only-fold (knownAfter f t (view c)) p)
     where
       go : (k : Option Const) → foldedTo f t (view c) ≡ k → (q : List Cell) → only writeCapable q ≡ only writeCapable p
           → only writeCapable (asLoad view f loadCell c (dstOf (view c)) k ∷ q) ≡ only writeCapable (c ∷ p)

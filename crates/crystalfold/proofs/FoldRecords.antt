@@ -1,6 +1,6 @@
 -- The records theorem of CrystalFold, for any sound rules: the registers hold what the table knows of them, so a folded cell does what the
 -- cell did. No premise is needed.
-use mathlib.Core.Path.{_≡_, refl, _∙_}
+use mathlib.Core.Path.{_≡_, refl, ap, _∙_}
 use mathlib.Core.Bool.{true, false}
 use mathlib.Core.Option.{Option, none, some}
 use mathlib.Core.List.{List, _∷_, map, nil≢cons}
@@ -11,15 +11,16 @@ use Rattle.cells.specs.Ins.{Const, Ins, load, comp, label, jmp, jmpIf, ret, act
 use Rattle.cells.specs.View.{view, loadCell}
 use Rattle.cells.proofs.Facts.{by-test}
 use Rattle.cells.proofs.Views.{view-load}
-use Rattle.machine.specs.Values.{Value, con, Regs, set, put}
+use Rattle.machine.specs.Values.{Value, con, Regs, set, put, writtenOf}
 use Rattle.machine.specs.Compute.{Outcome, value, unfit, nothing, outside, compute}
 use Rattle.machine.specs.Run.{seek, exec, on, outcomeMove}
 use Rattle.machine.specs.Records.{SameRecords}
 use Rattle.machine.proofs.Simulation.{Rel, After, Advance, same, alike, Simulation, same-by}
 use Rattle.machine.proofs.Jumps.{plain, both-map}
-use Rattle.crystalfold.specs.Rules.{Rules, Sound, resulting, defaultRules}
-use Rattle.crystalfold.specs.Fold.{Table, unknown, note, forget, fold₂, foldedTo, dstOf, known}
+use Rattle.crystalfold.specs.Rules.{Rules, knownOf, fold₂, Sound}
+use Rattle.crystalfold.specs.Fold.{Table, unknown, note, forget, foldedTo, dstOf, knownAfter}
 use Rattle.crystalfold.specs.CrystalFold.{foldCode}
+use Rattle.crystalfold.proofs.Soundness.{left-unknown, right-unknown}
 use Rattle.crystalfold.proofs.Natural.{map-fold}
 use Rattle.crystalfold.proofs.FoldJumps.{folds, seek-fold}
 
@@ -48,8 +49,8 @@ module _ (f : Rules) (sound : Sound f) where
   -- a fold's value is what the command computes
   fold-value : (o : ℕ) (x y : Option Const) (a b : Value) (v : Const) → ((u : Const) → x ≡ some u → a ≡ con u) → ((u : Const) → y ≡ some u → b ≡ con u) → fold₂ (f o) x y ≡ some v → compute o a b ≡ value v
   unfolding Sound
-  fold-value o none y a b v g h e = cc
-  fold-value o (some x) none a b v g h e = cc
+  fold-value o none y a b v g h e = let n : fold₂ (f o) none y ≡ none = ap writtenOf (left-unknown (f o) (knownOf y)) in cc
+  fold-value o (some x) none a b v g h e = let n : fold₂ (f o) (some x) none ≡ none = ap writtenOf (right-unknown (f o) (knownOf (some x))) in cc
   fold-value o (some x) (some y) a b v g h e = rw (g x refl, h y refl) (sound o x y v e)
 
   -- a folded cell does what the cell did
@@ -75,7 +76,7 @@ module _ (f : Rules) (sound : Sound f) where
   holds-comp t c o d a b r r′ h nothing e y = absurd y
   holds-comp t c o d a b r r′ h outside e y = rw (y .1) (holds-note t r d (fold₂ (f o) (t a) (t b)) (y .0) (λ v k. let g = fold-value o (t a) (t b) (r a) (r b) v (h a) (h b) k in cc) h)
 
-  holds-known : (t : Table) (i : Ins) (r r′ : Regs) → Holds t r → After (exec i r) r r′ → Holds (known f t i) r′
+  holds-known : (t : Table) (i : Ins) (r r′ : Regs) → Holds t r → After (exec i r) r r′ → Holds (knownAfter f t i) r′
   unfolding exec
   holds-known t (load d v) r r′ h x = rw x (holds-note t r d (some v) (con v) (λ w e. cc) h)
   holds-known t (comp c o d a b) r r′ h x = holds-comp t c o d a b r r′ h (compute o (r a) (r b)) refl x
@@ -91,9 +92,9 @@ module _ (f : Rules) (sound : Sound f) where
     advance i p r q s x = go (x .0) (x .1) (x .3) (foldedTo f (x .0) i) refl
       where
         go : (t : Table) → q ≡ folds f t (i ∷ p) → Holds t r → (k : Option Const) → foldedTo f t i ≡ k → Advance P ρ i p r q s
-        go t y h none e = same (folds f (known f t i) p) (y ∙ rw e) (x .2) (λ r′ a. (known f t i, refl, refl, holds-known t i r r′ h a))
-        go t y h (some v) e = alike (load (dstOf i) v) (folds f (known f t i) p) (set (dstOf i) (con v) r) (y ∙ rw e) (exec-folded t i r v h e) (rw (← (x .2)) (exec-load (dstOf i) v r))
-            (known f t i, refl, refl, holds-known t i r (set (dstOf i) (con v) r) h (rw (exec-folded t i r v h e) refl))
+        go t y h none e = same (folds f (knownAfter f t i) p) (y ∙ rw e) (x .2) (λ r′ a. (knownAfter f t i, refl, refl, holds-known t i r r′ h a))
+        go t y h (some v) e = alike (load (dstOf i) v) (folds f (knownAfter f t i) p) (set (dstOf i) (con v) r) (y ∙ rw e) (exec-folded t i r v h e) (rw (← (x .2)) (exec-load (dstOf i) v r))
+            (knownAfter f t i, refl, refl, holds-known t i r (set (dstOf i) (con v) r) h (rw (exec-folded t i r v h e) refl))
 
     simulation : Simulation P (folds f unknown P) ρ
     simulation = record {
@@ -113,14 +114,3 @@ view-fold f cs = map-fold plain view f loadCell load view-load unknown cs
 
 pub fold-records : (f : Rules) → Sound f → (cs : List Cell) → SameRecords (map view cs) (map view (foldCode f cs))
 fold-records f sound cs = rw (view-fold f cs) (fold-same f sound (map view cs))
-
--- the default rules give what the commands compute
-resulting-is : (x : Outcome) (v : Const) → resulting x ≡ some v → x ≡ value v
-resulting-is (value k) v e = cc
-resulting-is unfit v e = cc
-resulting-is nothing v e = cc
-resulting-is outside v e = cc
-
-pub default-sound : Sound defaultRules
-unfolding Sound defaultRules
-default-sound o a b v e = resulting-is (compute o (con a) (con b)) v e

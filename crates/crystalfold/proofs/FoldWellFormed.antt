@@ -5,34 +5,30 @@ use Prim.Native.Nat.{ℕ, _<_}
 use native.Mathlib.Omega.{arith}
 use lib.ListN.{length, length-append}
 use Rattle.cells.specs.Cells.{Cell, Full}
-use Rattle.cells.specs.Ins.{Const, comp}
+use Rattle.cells.specs.Ins.{comp}
 use Rattle.cells.specs.View.{view, Registers}
 use Rattle.cells.specs.Lists.{All}
 use Rattle.cells.specs.Check.{registers}
 use Rattle.cells.specs.Functions.{Function, cellsOf}
 use Rattle.cells.specs.WellFormed.{InstructionGood, WellFormed}
-use Rattle.cells.proofs.Lists.{all-append}
+use Rattle.cells.proofs.Lists.{all-append, all-parts}
 use Rattle.cells.proofs.Views.{view-registers}
 use Rattle.cells.proofs.GoodCells.{load-good, load-length}
-use Rattle.sites.proofs.Tally.{all-parts}
 use Rattle.crystalfold.specs.Rules.{Rules}
 use Rattle.crystalfold.specs.CrystalFold.{foldCode, foldFunction}
 use Rattle.crystalfold.proofs.FoldCounts.{length-folded}
 use Rattle.crystalfold.proofs.EachFolded.{all-folded}
 
-abbrev Any : Const → Type 0
-Any v = Unit {0}
-
 module _ (f : Rules) where
   -- a fold writes a load of the register that its command wrote
   pub folded-good : (cs : List Cell) → All InstructionGood cs → All InstructionGood (foldCode f cs)
-  folded-good = all-folded InstructionGood f Any (λ c d v g e. tt) (λ o a b v x y e. tt) (λ c k o d a b v g e x. load-good d v (dst-small c k o d a b g e))
+  folded-good = all-folded InstructionGood f (λ c k o d a b v g e. load-good d v (dst-small c k o d a b g e))
     where
       dst-small : (c k : Cell) (o d a b : ℕ) → InstructionGood c → view c ≡ comp k o d a b → d < registers
       dst-small c k o d a b g e = let r : Registers (comp k o d a b) = rw e at (view-registers 0 0 c (g 0 0)) in r .0
 
   pub folded-full : (cs : List Cell) → Full cs → Full (foldCode f cs)
-  folded-full = all-folded (λ c. length c ≡ 16) f Any (λ c d v g e. tt) (λ o a b v x y e. tt) (λ c k o d a b v g e x. load-length d v)
+  folded-full = all-folded (λ c. length c ≡ 16) f (λ c k o d a b v g e. load-length d v)
 
   pub fold-well-formed : (g : Function) → WellFormed g → WellFormed (foldFunction f g)
   unfolding foldFunction

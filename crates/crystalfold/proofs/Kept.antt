@@ -1,6 +1,6 @@
 -- Every cell that isn't folded keeps all its bytes: a cell of the result is the one sent, or the load of a computed command's dst in its
--- place. Assumes nothing.
-use mathlib.Core.Path.{_≡_, refl, sym, ap, _∙_}
+-- place.
+use mathlib.Core.Path.{_≡_, refl}
 use mathlib.Core.Logic.{_⊎_, inl, inr}
 use mathlib.Core.Option.{Option, none, some}
 use mathlib.Core.List.{List, [], _∷_}
@@ -10,8 +10,8 @@ use lib.ListN.{length, getD}
 use Rattle.cells.specs.Cells.{Cell}
 use Rattle.cells.specs.Ins.{Const, Ins, load, comp, label, jmp, jmpIf, ret, act}
 use Rattle.cells.specs.View.{view, loadCell}
-use Rattle.crystalfold.specs.Rules.{Rules}
-use Rattle.crystalfold.specs.Fold.{Table, unknown, fold₂, foldedTo, dstOf, known, fold, asLoad}
+use Rattle.crystalfold.specs.Rules.{Rules, fold₂}
+use Rattle.crystalfold.specs.Fold.{Table, unknown, foldedTo, dstOf, knownAfter, fold, asLoad}
 use Rattle.crystalfold.specs.CrystalFold.{foldCode}
 
 -- a computed command c whose place the load r of its dst takes
@@ -44,7 +44,7 @@ module _ (f : Rules) where
       → (getD (fold view f loadCell t cs) k [] ≡ getD cs k []) ⊎ Replaced (getD cs k []) (getD (fold view f loadCell t cs) k [])
   each-cell t [] k h = absurd (not-suc-le-zero h)
   each-cell t (c ∷ cs) zero h = one-cell t c (view c) refl
-  each-cell t (c ∷ cs) (suc k) h = each-cell (known f t (view c)) cs k (le-of-suc-le-suc h)
+  each-cell t (c ∷ cs) (suc k) h = each-cell (knownAfter f t (view c)) cs k (le-of-suc-le-suc h)
 
   pub kept-or-replaced : (cs : List Cell) (k : ℕ) → k < length cs
       → (getD (foldCode f cs) k [] ≡ getD cs k []) ⊎ Replaced (getD cs k []) (getD (foldCode f cs) k [])

@@ -1,4 +1,5 @@
 pub mod Natural
+pub mod Soundness
 pub mod FoldJumps
 pub mod FoldRecords
 pub mod FoldPasses

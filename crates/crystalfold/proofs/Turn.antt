@@ -1,31 +1,35 @@
--- One turn of the fold's loop. Assumes nothing.
-use Prim.Native.Nat.{ℕ, zero, suc, _+_, _-_, _*_, _/_, _%_, _≤_, _<_}
+-- One turn of the fold's loop.
+use Prim.Native.Nat.{ℕ, suc, _+_, _-_, _*_, _/_, _≤_, _<_}
 use mathlib.Core.Path.{_≡_, refl, sym, ap, ap₂, subst, _∙_}
 use mathlib.Core.Bool.{true, false, false≢true}
 use mathlib.Core.Option.{Option, none, some}
-use mathlib.Core.List.{List, [], _∷_, _++_, append-assoc, append-nil}
+use mathlib.Core.List.{List, [], _++_, append-assoc, append-nil}
 use native.Mathlib.Nat.{add-zero, add-assoc, zero-add, sub-zero}
 use native.Mathlib.Omega.{arith}
 use lib.ListN.{length, getD, set, take, drop, replicate, length-set, length-append, length-take, length-drop, length-replicate, take-append-drop}
 use lib.Seq.{take-at, drop-at, length-take-le, take-all, drop-drop}
 use Rattle.leaves.specs.declared.constant.ConstVal.{ConstVal}
 use Rattle.leaves.specs.declared.constant.ConstVal.the-variants.{Unknown, Quad as QuadV, Bool as BoolV, F64, I32, U32, Fx}
-use Rattle.leaves.specs.Constants.{known as isKnown}
+use Rattle.leaves.specs.Constants.{isKnown}
+use Rattle.leaves.specs.Verdicts.{valueIn}
 use Rattle.cells.specs.Lists.{All}
-use Rattle.cells.specs.Cells.{Cell, chunks, cells, cellAt, flat}
+use Rattle.cells.specs.Cells.{Cell, chunks, cellAt, flat}
 use Rattle.cells.specs.Check.{registers}
-use Rattle.cells.specs.Ins.{Const, quad, bool, f64, i32, u32, fx}
+use Rattle.cells.specs.Ins.{Const}
 use Rattle.cells.specs.View.{view, loadCell, Registers}
-use Rattle.crystalfold.specs.Rules.{Rules}
-use Rattle.crystalfold.specs.Fold.{Table, unknown, note, fold₂, foldedTo, dstOf, known, oneIf, fold, foldCount, asLoad}
+use Rattle.cells.proofs.GoodCells.{load-length}
+use Rattle.machine.specs.Values.{writtenOf}
+use Rattle.machine.specs.Evaluate.{evaluate}
+use Rattle.crystalfold.specs.Rules.{Rules, fold₂, rulesOf}
+use Rattle.crystalfold.specs.Fold.{Table, unknown, note, foldedTo, dstOf, knownAfter, oneIf, fold, foldCount, asLoad}
 use Rattle.crystalfold.specs.CrystalFold.{foldCode, foldsOf}
-use Rattle.crystalfold.specs.Values.{rulesOf, foldValue, knownOf, writtenOf, loadOf}
 use Rattle.crystalfold.specs.Commands.{commandOf}
-use Rattle.crystalfold.specs.InPlace.{Foldable, Folded, cellOr}
-use Rattle.crystalfold.specs.declared.arms.RuleSet.{RuleSet}
+use Rattle.crystalfold.specs.InPlace.{Foldable, Folded, Computed, cellOr, loadOrZeros}
+use Rattle.crystalfold.specs.declared.rules.RuleSet.{RuleSet}
 use Rattle.crystalfold.specs.declared.command.Command.{Command}
 use Rattle.crystalfold.specs.declared.command.Command.the-variants.{Barrier, Load, Compute, Forget, Other}
-use Rattle.crystalfold.proofs.Agreement.{Agree, agree-unknown, agree-note, fold-agrees}
+use Rattle.crystalfold.proofs.FoldCounts.{at-most-one}
+use Rattle.crystalfold.proofs.Agreement.{Agree, agree-unknown, agree-note}
 use Rattle.crystalfold.proofs.Effects.{Effect, effect, Within, within}
 
 -- n cells of s, folded from the table t on, as bytes; and how many folds that is
@@ -52,32 +56,25 @@ pub record Done (s : RuleSet) (bytes₀ : List ℕ) (n : ℕ) (bytes : List ℕ)
   pub joined : take (16 * i) bytes ++ foldFrom (rulesOf s) (n - i) table (drop (16 * i) bytes) ≡ foldFrom (rulesOf s) n unknown bytes₀
   pub counted : count + countFrom (rulesOf s) (n - i) table (drop (16 * i) bytes) ≡ countFrom (rulesOf s) n unknown bytes₀
 
-pub one-most : (k : Option Const) → oneIf k ≤ 1
-one-most none = omega arith
-one-most (some k) = omega arith
-
-load-length : (d : ℕ) (k : Const) → length (loadCell d k) ≡ 16
-unfolding loadCell
-load-length d (quad q) = refl
-load-length d (bool b) = refl
-load-length d (f64 n) = refl
-load-length d (i32 n) = refl
-load-length d (u32 n) = refl
-load-length d (fx n) = refl
-
 pub or-length : (c : Cell) (d : ℕ) (k : Option Const) → length c ≡ 16 → length (cellOr c d k) ≡ 16
 or-length c d none h = h
 or-length c d (some k) h = load-length d k
 
--- a known value's load stands in place of the cell, and counts 1
-pub load-stands : (c : Cell) (d : ℕ) (v : ConstVal) → isKnown v ≡ true → (loadOf d (writtenOf v) ≡ cellOr c d (writtenOf v)) × (1 ≡ oneIf (writtenOf v))
-load-stands c d Unknown h = absurd (false≢true h)
-load-stands c d (QuadV q) h = (refl, refl)
-load-stands c d (BoolV b) h = (refl, refl)
-load-stands c d (F64 x) h = (refl, refl)
-load-stands c d (I32 z) h = (refl, refl)
-load-stands c d (U32 n) h = (refl, refl)
-load-stands c d (Fx z) h = (refl, refl)
+-- a known value is written: its load stands in place of the cell, and counts 1
+has-bits : (v : ConstVal) → isKnown v ≡ true → (k : Const) × (writtenOf v ≡ some k)
+has-bits Unknown h = absurd (false≢true h)
+has-bits (QuadV q) h = (_, refl)
+has-bits (BoolV b) h = (_, refl)
+has-bits (F64 x) h = (_, refl)
+has-bits (I32 z) h = (_, refl)
+has-bits (U32 n) h = (_, refl)
+has-bits (Fx z) h = (_, refl)
+
+pub load-stands : (c : Cell) (d : ℕ) (v : ConstVal) → isKnown v ≡ true → loadOrZeros d (writtenOf v) ≡ cellOr c d (writtenOf v)
+load-stands c d v h = let (k, e) = has-bits v h in rw e
+
+pub counts-one : (v : ConstVal) → isKnown v ≡ true → 1 ≡ oneIf (writtenOf v)
+counts-one v h = let (k, e) = has-bits v h in rw e
 
 -- the first of the cells, and those behind it
 module _ (f : Rules) (t : Table) (s : List ℕ) (m : ℕ) where
@@ -85,7 +82,7 @@ module _ (f : Rules) (t : Table) (s : List ℕ) (m : ℕ) where
   as-load d none = refl
   as-load d (some k) = refl
 
-  module _ (d : ℕ) (k : Option Const) (t′ : Table) (ed : dstOf (view (take 16 s)) ≡ d) (ek : foldedTo f t (view (take 16 s)) ≡ k) (et : known f t (view (take 16 s)) ≡ t′) where
+  module _ (d : ℕ) (k : Option Const) (t′ : Table) (ed : dstOf (view (take 16 s)) ≡ d) (ek : foldedTo f t (view (take 16 s)) ≡ k) (et : knownAfter f t (view (take 16 s)) ≡ t′) where
     fold-suc : foldFrom f (suc m) t s ≡ cellOr (take 16 s) d k ++ foldFrom f m t′ (drop 16 s)
     fold-suc =
         ap₂ (λ (c : Cell) (u : Table). c ++ foldFrom f m u (drop 16 s))
@@ -120,7 +117,7 @@ module _ {s : RuleSet} {bytes₀ : List ℕ} {n : ℕ} {bytes : List ℕ} {held 
 
   turn : (d : Done s bytes₀ n bytes held count i) → i < n → (dst : ℕ) (k : Option Const) (t′ : Table) {held′ : List ConstVal}
       → dstOf (view (cellAt bytes i)) ≡ dst → foldedTo (rulesOf s) (d .table) (view (cellAt bytes i)) ≡ k
-      → known (rulesOf s) (d .table) (view (cellAt bytes i)) ≡ t′ → Agree held′ t′ → length held′ ≡ registers
+      → knownAfter (rulesOf s) (d .table) (view (cellAt bytes i)) ≡ t′ → Agree held′ t′ → length held′ ≡ registers
       → (count′ : ℕ) → count′ ≡ count + oneIf k
       → Done s bytes₀ n (take (16 * i) bytes ++ (cellOr (cellAt bytes i) dst k ++ drop (16 * i + 16) bytes)) held′ count′ (i + 1)
   turn d h dst k t′ ed ek et a z count′ ec =
@@ -133,7 +130,7 @@ module _ {s : RuleSet} {bytes₀ : List ℕ} {n : ℕ} {bytes : List ℕ} {held 
       let room = d .room in
       let same = d .same in
       let few = d .few in
-      let most = one-most k in
+      let most = at-most-one k in
       let l16 : length (take 16 rest) ≡ 16 = length-take-le 16 rest (simp length-drop (omega arith)) in
       let lc : length c ≡ 16 = or-length (take 16 rest) dst k l16 in
       let lo : length (take o bytes) ≡ o = length-take-le o bytes (omega arith) in
@@ -171,7 +168,7 @@ module _ {s : RuleSet} {bytes₀ : List ℕ} {n : ℕ} {bytes : List ℕ} {held 
 
   turn-kept : (d : Done s bytes₀ n bytes held count i) → i < n → (t′ : Table) {held′ : List ConstVal}
       → foldedTo (rulesOf s) (d .table) (view (cellAt bytes i)) ≡ none
-      → known (rulesOf s) (d .table) (view (cellAt bytes i)) ≡ t′ → Agree held′ t′ → length held′ ≡ registers
+      → knownAfter (rulesOf s) (d .table) (view (cellAt bytes i)) ≡ t′ → Agree held′ t′ → length held′ ≡ registers
       → Done s bytes₀ n bytes held′ count (i + 1)
   turn-kept d h t′ {held′} ek et a z =
       subst (λ (x : List ℕ). Done s bytes₀ n x held′ count (i + 1)) (kept (16 * i) bytes)
@@ -209,19 +206,17 @@ module _ {s : RuleSet} {bytes₀ : List ℕ} {n : ℕ} {bytes : List ℕ} {held 
         turn-kept d h (d .table) none-folded after (d .agree) (d .size)
 
     -- v is what the command comes to, or Unknown
-    pub turn-compute : {o x a b : ℕ} {v : ConstVal} → r ≡ Compute o x a b → v ≡ foldValue s o (getD held a Unknown) (getD held b Unknown) → knownOf (writtenOf v) ≡ v
-        → (count′ : ℕ) → count′ ≡ count + oneIf (writtenOf v)
-        → Done s bytes₀ n (take (16 * i) bytes ++ (cellOr (cellAt bytes i) x (writtenOf v) ++ drop (16 * i + 16) bytes)) (set held x v) count′ (i + 1)
-    turn-compute {o} {x} {a} {b} {v} c ev back count′ ec =
+    pub turn-compute : {o x a b : ℕ} {v : ConstVal} {bytes′ : List ℕ} → r ≡ Compute o x a b
+        → Computed (rulesOf s o) (getD held a Unknown) (getD held b Unknown) i x bytes bytes′ v → (count′ : ℕ) → count′ ≡ count + oneIf (writtenOf v)
+        → Done s bytes₀ n bytes′ (set held x v) count′ (i + 1)
+    turn-compute {o} {x} {a} {b} {v} c p count′ ec =
         let t = d .table in
         let (folded, dst, after) = effect-now d e c in
         let w : fold₂ (rulesOf s o) (t a) (t b) ≡ writtenOf v =
-        fold-agrees s o (t a) (t b) ∙ ap writtenOf (sym (ev ∙ ap₂ (foldValue s o) (d .agree a) (d .agree b))) in
-        turn d h x (writtenOf v) (note x (writtenOf v) t) dst (folded ∙ w) (after ∙ ap (λ (k : Option Const). note x k t) w)
-        (agree-note held t x v (writtenOf v) (in-table (bound c .0)) back (d .agree)) (as-long x v) count′ ec
-
-  pub move : {bytes′ : List ℕ} → bytes′ ≡ bytes → Done s bytes₀ n bytes held count i → Done s bytes₀ n bytes′ held count i
-  move e d = subst (λ (x : List ℕ). Done s bytes₀ n x held count i) (sym e) d
+        ap writtenOf (sym (p .value ∙ ap₂ (λ (l r : ConstVal). valueIn (evaluate (rulesOf s o) l r)) (d .agree a) (d .agree b))) in
+        subst (λ (y : List ℕ). Done s bytes₀ n y (set held x v) count′ (i + 1)) (sym (p .put .bytes))
+        (turn d h x (writtenOf v) (note x (writtenOf v) t) dst (folded ∙ w) (after ∙ ap (λ (k : Option Const). note x k t) w)
+        (agree-note held t x v (writtenOf v) (in-table (bound c .0)) (p .put .readBack) (d .agree)) (as-long x v) count′ ec)
 
 pub start : (s : RuleSet) (bytes : List ℕ) → Foldable bytes → Done s bytes (length bytes / 16) bytes (replicate registers Unknown) 0 0
 start s bytes h =

@@ -1,11 +1,10 @@
--- What an instruction is to the fold, with its constants as values: a barrier, a load, a computed command, a command that only writes a
+-- Inner: what an instruction is to the fold, with its constants as values: a barrier, a load, a computed command, a command that only writes a
 -- register, any other.
 use mathlib.Core.Bool.{Bool, cond}
 use mathlib.Core.Option.{Option, none, some}
-use Prim.Native.Nat.{ℕ, _<_}
+use Prim.Native.Nat.{ℕ}
 use lib.Dec.{eqb}
 use Rattle.cells.specs.Cells.{Cell}
-use Rattle.cells.specs.Check.{registers}
 use Rattle.cells.specs.Ins.{Ins, load, comp, label, jmp, jmpIf, ret, act}
 use Rattle.cells.specs.View.{view}
 use Rattle.machine.specs.Values.{valueOf}

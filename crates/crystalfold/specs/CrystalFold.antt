@@ -1,4 +1,4 @@
--- CrystalFold of a function (document 01, module 5): its instruction cells and the count; its events stay.
+-- Promise: CrystalFold of a function (document 01, module 5): its instruction cells and the count; its events stay.
 use Prim.Native.Nat.{ℕ}
 use mathlib.Core.List.{List}
 use Rattle.cells.specs.Cells.{Cell}

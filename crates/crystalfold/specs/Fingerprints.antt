@@ -1,12 +1,11 @@
--- The two fingerprints that the Rust takes before and after a fold: `store_var_fingerprint`, the name and the activation site of every StoreVar;
+-- Promise: the two fingerprints that the Rust takes before and after a fold: `store_var_fingerprint`, the name and the activation site of every StoreVar;
 -- `write_site_fingerprint`, the write site of every StoreVar and MakeRecord; both in order.
 use mathlib.Core.List.{List, map}
 use Prim.Native.Nat.{ℕ}
 use Rattle.cells.specs.Bytes.{half}
 use Rattle.cells.specs.Cells.{Cell}
 use Rattle.cells.specs.Lists.{only}
-use Rattle.sites.specs.Sites.{isStoreVar, siteOf}
-use Rattle.sites.specs.Fit.{writeCapable}
+use Rattle.sites.specs.Sites.{isStoreVar, siteOf, writeCapable}
 use Rattle.sites.specs.declared.Site.{Site}
 use Rattle.sites.specs.declared.Which.the-variants.{Activation, Write}
 

@@ -1,12 +1,12 @@
--- CrystalFold's pass, from left to right (document 01, module 5), over cells of any form: `see` says what a cell is, and `make d v` is the cell
+-- Promise: CrystalFold's pass, from left to right (document 01, module 5), over cells of any form: `see` says what a cell is, and `make d v` is the cell
 -- that loads v into d. Its rules are a parameter.
-use mathlib.Core.Bool.{Bool, true, false, cond}
+use mathlib.Core.Bool.{cond}
 use mathlib.Core.Option.{Option, none, some}
 use mathlib.Core.List.{List, [], _∷_}
 use Prim.Native.Nat.{ℕ, _+_}
 use lib.Dec.{eqb}
 use Rattle.cells.specs.Ins.{Const, Ins, load, comp, label, jmp, jmpIf, ret, act}
-use Rattle.crystalfold.specs.Rules.{Rules}
+use Rattle.crystalfold.specs.Rules.{Rules, fold₂}
 
 -- what is known of each register
 abbrev pub Table : Type 0
@@ -23,11 +23,6 @@ note d k t = λ x. cond (eqb x d) k (t x)
 abbrev pub forget : Option ℕ → Table → Table
 forget none t = t
 forget (some d) t = note d none t
-
-abbrev pub fold₂ : (Const → Const → Option Const) → Option Const → Option Const → Option Const
-fold₂ f none y = none
-fold₂ f (some a) none = none
-fold₂ f (some a) (some b) = f a b
 
 -- the value that a cell is folded to
 abbrev pub foldedTo : Rules → Table → Ins → Option Const
@@ -49,14 +44,14 @@ dstOf (ret s) = 0
 dstOf (act c d b) = 0
 
 -- what is known after a cell: a load's value, a fold's or nothing of a computed command's dst; nothing at all after a barrier
-abbrev pub known : Rules → Table → Ins → Table
-known f t (load d v) = note d (some v) t
-known f t (comp c o d a b) = note d (fold₂ (f o) (t a) (t b)) t
-known f t (label l) = unknown
-known f t (jmp l) = unknown
-known f t (jmpIf c l) = unknown
-known f t (ret s) = unknown
-known f t (act c d b) = cond b unknown (forget d t)
+abbrev pub knownAfter : Rules → Table → Ins → Table
+knownAfter f t (load d v) = note d (some v) t
+knownAfter f t (comp c o d a b) = note d (fold₂ (f o) (t a) (t b)) t
+knownAfter f t (label l) = unknown
+knownAfter f t (jmp l) = unknown
+knownAfter f t (jmpIf c l) = unknown
+knownAfter f t (ret s) = unknown
+knownAfter f t (act c d b) = cond b unknown (forget d t)
 
 -- each fold counts 1
 abbrev pub oneIf : Option Const → ℕ
@@ -66,7 +61,7 @@ oneIf (some v) = 1
 module _ {C : Type 0} (see : C → Ins) (f : Rules) where
   abbrev pub foldCount : Table → List C → ℕ
   foldCount t [] = 0
-  foldCount t (c ∷ p) = oneIf (foldedTo f t (see c)) + foldCount (known f t (see c)) p
+  foldCount t (c ∷ p) = oneIf (foldedTo f t (see c)) + foldCount (knownAfter f t (see c)) p
 
   module _ (make : ℕ → Const → C) where
     abbrev pub asLoad : C → ℕ → Option Const → C
@@ -75,4 +70,4 @@ module _ {C : Type 0} (see : C → Ins) (f : Rules) where
 
     abbrev pub fold : Table → List C → List C
     fold t [] = []
-    fold t (c ∷ p) = asLoad c (dstOf (see c)) (foldedTo f t (see c)) ∷ fold (known f t (see c)) p
+    fold t (c ∷ p) = asLoad c (dstOf (see c)) (foldedTo f t (see c)) ∷ fold (knownAfter f t (see c)) p

@@ -1,16 +1,20 @@
--- The fold of a function's instruction cells in place.
+-- Inner: the fold of a function's instruction cells in place.
 use mathlib.Core.Path.{_≡_}
 use mathlib.Core.Option.{Option, none, some}
-use mathlib.Core.List.{List}
-use Prim.Native.Nat.{ℕ, _%_}
-use lib.ListN.{length}
+use mathlib.Core.List.{List, _++_}
+use Prim.Native.Nat.{ℕ, _+_, _*_, _%_}
+use lib.ListN.{length, take, drop, replicate}
+use Rattle.leaves.specs.declared.constant.ConstVal.{ConstVal}
+use Rattle.leaves.specs.Verdicts.{valueIn}
 use Rattle.cells.specs.Lists.{All}
-use Rattle.cells.specs.Cells.{Cell, cells, flat}
+use Rattle.cells.specs.Cells.{Cell, cells, cellAt, flat}
 use Rattle.cells.specs.Ins.{Const}
 use Rattle.cells.specs.View.{view, loadCell, Registers}
+use Rattle.machine.specs.Values.{writtenOf}
+use Rattle.machine.specs.Evaluate.{Meaning, evaluate}
 use Rattle.crystalfold.specs.CrystalFold.{foldCode, foldsOf}
-use Rattle.crystalfold.specs.Values.{rulesOf}
-use Rattle.crystalfold.specs.declared.arms.RuleSet.{RuleSet}
+use Rattle.crystalfold.specs.Rules.{rulesOf, knownOf}
+use Rattle.crystalfold.specs.declared.rules.RuleSet.{RuleSet}
 
 -- whole cells, whose registers are below the limit, as in every cell that passes the check
 pub record Foldable (bytes : List ℕ) : Type 0 where
@@ -22,7 +26,24 @@ pub record Folded (s : RuleSet) (before after : List ℕ) (count : ℕ) : Type 0
   pub bytes : after ≡ flat (foldCode (rulesOf s) (cells before))
   pub folds : count ≡ foldsOf (rulesOf s) (cells before)
 
+-- ---- inner: one command
+
 -- a cell c, or in its place the load of what it is folded to
 abbrev pub cellOr : Cell → ℕ → Option Const → Cell
 cellOr c d none = c
 cellOr c d (some k) = loadCell d k
+
+-- the cell that loads what is known into d; zeros where nothing is
+abbrev pub loadOrZeros : ℕ → Option Const → Cell
+loadOrZeros d none = replicate 16 0
+loadOrZeros d (some k) = loadCell d k
+
+-- the load of v, if it is known, stands at the position k. Its bits are those of v: read back, they give it
+pub record PutLoad (k dst : ℕ) (before after : List ℕ) (v : ConstVal) : Type 0 where
+  pub bytes : after ≡ take (16 * k) before ++ (cellOr (cellAt before k) dst (writtenOf v) ++ drop (16 * k + 16) before)
+  pub readBack : knownOf (writtenOf v) ≡ v
+
+-- what the command at k comes to at two operands, v, has its load there
+pub record Computed (m : Option Meaning) (left right : ConstVal) (k dst : ℕ) (before after : List ℕ) (v : ConstVal) : Type 0 where
+  pub value : v ≡ valueIn (evaluate m left right)
+  pub put : PutLoad k dst before after v

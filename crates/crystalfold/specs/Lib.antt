@@ -2,6 +2,6 @@ pub mod Rules
 pub mod Fold
 pub mod CrystalFold
 pub mod Fingerprints
-pub mod Values
+pub mod Arms
 pub mod Commands
 pub mod InPlace

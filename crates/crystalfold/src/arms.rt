@@ -1,8 +1,11 @@
-// What a computed command comes to at two known values. An arm answers Unknown where the command stays.
+// What a computed command comes to at two operands, by the rules of the fold.
 ghost use mathlib.Core.Path.{_≡_};
-ghost use types.Run.{OneOf};
-ghost use Rattle.machine.specs.Compute.{meaning};
-ghost use Rattle.crystalfold.specs.Values.{foldMeaning, foldValue, f64Commands, fxCommands, i32Commands, u32Commands, boolCommands, quadCommands, i32Tests, u32Tests, equalities};
+ghost use mathlib.Core.Option.{some};
+ghost use Rattle.leaves.specs.Verdicts.{ifKnown};
+ghost use Rattle.machine.specs.Evaluate.{twoF64, twoFx, twoI32, twoU32, twoBool, twoQuad, evaluate};
+ghost use Rattle.crystalfold.specs.Rules.{rulesOf, defaultRules};
+ghost use Rattle.crystalfold.specs.Arms.{leafOf, f64Leaves, fxLeaves, i32Leaves, u32Leaves, boolLeaves, quadLeaves, equalityLeaves};
+use crate::rules::RuleSet;
 use leaves::compare;
 use leaves::constant;
 use leaves::constant::ConstVal;
@@ -11,23 +14,20 @@ use leaves::float;
 use leaves::quad;
 use leaves::signed;
 use leaves::unsigned;
+use leaves::verdict;
+use leaves::verdict::Verdict;
 
-// The rules of the fold: the Rust's.
-pub enum RuleSet {
-    Default,
-}
-
-pub fn fold_value(rules: RuleSet, op: u8, left: ConstVal, right: ConstVal) -> ConstVal
-    ensures { λ r. ⌜ r ≡ foldValue rules op left right ⌝ }
+pub fn fold_value(rules: RuleSet, op: u8, left: ConstVal, right: ConstVal) -> Verdict
+    ensures { λ r. ⌜ r ≡ evaluate (rulesOf rules op) left right ⌝ }
 {
     match rules {
         RuleSet::Default => fold_default(op, left, right),
     }
 }
 
-// The 31 commands by their operands' kinds.
-fn fold_default(op: u8, left: ConstVal, right: ConstVal) -> ConstVal
-    ensures { λ r. ⌜ r ≡ foldMeaning (meaning op) left right ⌝ }
+// The 31 commands by their operands' kinds: an arm each, so that its call knows the command.
+fn fold_default(op: u8, left: ConstVal, right: ConstVal) -> Verdict
+    ensures { λ r. ⌜ r ≡ evaluate (defaultRules op) left right ⌝ }
 {
     match op {
         0x11 => fold_f64(op, left, right),
@@ -39,10 +39,14 @@ fn fold_default(op: u8, left: ConstVal, right: ConstVal) -> ConstVal
         0x3B => fold_fx(op, left, right),
         0x4F => fold_fx(op, left, right),
         0x13 => fold_i32(op, left, right),
+        0x1A => fold_i32(op, left, right),
+        0x1B => fold_i32(op, left, right),
         0x27 => fold_i32(op, left, right),
         0x39 => fold_i32(op, left, right),
         0x3C => fold_i32(op, left, right),
         0x50 => fold_i32(op, left, right),
+        0x1C => fold_u32(op, left, right),
+        0x1D => fold_u32(op, left, right),
         0x1E => fold_u32(op, left, right),
         0x1F => fold_u32(op, left, right),
         0x20 => fold_u32(op, left, right),
@@ -55,179 +59,145 @@ fn fold_default(op: u8, left: ConstVal, right: ConstVal) -> ConstVal
         0x3E => fold_quad(op, left, right),
         0x3F => fold_quad(op, left, right),
         0x40 => fold_quad(op, left, right),
-        0x1A => fold_cmp_i32(op, left, right),
-        0x1B => fold_cmp_i32(op, left, right),
-        0x1C => fold_cmp_u32(op, left, right),
-        0x1D => fold_cmp_u32(op, left, right),
-        0x19 => fold_cmp_eq(op, left, right),
-        0x23 => fold_cmp_eq(op, left, right),
-        _ => ConstVal::Unknown,
+        0x19 => fold_equality(op, left, right),
+        0x23 => fold_equality(op, left, right),
+        _ => Verdict::NotComputed,
     }
 }
 
 // AddF64, DivF64, MulF64, SubF64
-fn fold_f64(op: u8, left: ConstVal, right: ConstVal) -> ConstVal
-    ensures { λ r. ⌜ (OneOf f64Commands op → r ≡ foldMeaning (meaning op) left right) ⌝ }
+fn fold_f64(op: u8, left: ConstVal, right: ConstVal) -> Verdict
+    ensures { λ r. ⌜ r ≡ evaluate (some (twoF64 (leafOf op f64Leaves))) left right ⌝ }
 {
     let ConstVal::F64(a) = left else {
-        return ConstVal::Unknown;
+        return verdict::declined(left, right);
     };
     let ConstVal::F64(b) = right else {
-        return ConstVal::Unknown;
+        return verdict::declined_right(right);
     };
     match op {
-        0x11 => constant::of_f64(float::add_f64(a, b)),
-        0x25 => constant::of_f64(float::div_f64(a, b)),
-        0x3A => constant::of_f64(float::mul_f64(a, b)),
-        0x4E => constant::of_f64(float::sub_f64(a, b)),
-        _ => ConstVal::Unknown,
+        0x11 => float::add_f64(a, b),
+        0x25 => float::div_f64(a, b),
+        0x3A => float::mul_f64(a, b),
+        0x4E => float::sub_f64(a, b),
+        _ => Verdict::NotComputed,
     }
 }
 
 // AddFx, DivFx, MulFx, SubFx
-fn fold_fx(op: u8, left: ConstVal, right: ConstVal) -> ConstVal
-    ensures { λ r. ⌜ (OneOf fxCommands op → r ≡ foldMeaning (meaning op) left right) ⌝ }
+fn fold_fx(op: u8, left: ConstVal, right: ConstVal) -> Verdict
+    ensures { λ r. ⌜ r ≡ evaluate (some (twoFx (leafOf op fxLeaves))) left right ⌝ }
 {
     let ConstVal::Fx(a) = left else {
-        return ConstVal::Unknown;
+        return verdict::declined(left, right);
     };
     let ConstVal::Fx(b) = right else {
-        return ConstVal::Unknown;
+        return verdict::declined_right(right);
     };
     match op {
-        0x12 => constant::of_fx(fixed::add_fx(a, b)),
-        0x26 => constant::of_fx(fixed::div_fx(a, b)),
-        0x3B => constant::of_fx(fixed::mul_fx(a, b)),
-        0x4F => constant::of_fx(fixed::sub_fx(a, b)),
-        _ => ConstVal::Unknown,
+        0x12 => fixed::add_fx(a, b),
+        0x26 => fixed::div_fx(a, b),
+        0x3B => fixed::mul_fx(a, b),
+        0x4F => fixed::sub_fx(a, b),
+        _ => Verdict::NotComputed,
     }
 }
 
-// AddI32, DivI32, ModI32, MulI32, SubI32
-fn fold_i32(op: u8, left: ConstVal, right: ConstVal) -> ConstVal
-    ensures { λ r. ⌜ (OneOf i32Commands op → r ≡ foldMeaning (meaning op) left right) ⌝ }
+// AddI32, CmpI32Le, CmpI32Lt, DivI32, ModI32, MulI32, SubI32
+fn fold_i32(op: u8, left: ConstVal, right: ConstVal) -> Verdict
+    ensures { λ r. ⌜ r ≡ evaluate (some (twoI32 (leafOf op i32Leaves))) left right ⌝ }
 {
     let ConstVal::I32(a) = left else {
-        return ConstVal::Unknown;
+        return verdict::declined(left, right);
     };
     let ConstVal::I32(b) = right else {
-        return ConstVal::Unknown;
+        return verdict::declined_right(right);
     };
     match op {
-        0x13 => constant::of_i32(signed::add_i32(a, b)),
-        0x27 => constant::of_i32(signed::div_i32(a, b)),
-        0x39 => constant::of_i32(signed::mod_i32(a, b)),
-        0x3C => constant::of_i32(signed::mul_i32(a, b)),
-        0x50 => constant::of_i32(signed::sub_i32(a, b)),
-        _ => ConstVal::Unknown,
+        0x13 => signed::add_i32(a, b),
+        0x1A => Verdict::Value(ConstVal::Bool(compare::le_i32(a, b))),
+        0x1B => Verdict::Value(ConstVal::Bool(compare::lt_i32(a, b))),
+        0x27 => signed::div_i32(a, b),
+        0x39 => signed::mod_i32(a, b),
+        0x3C => signed::mul_i32(a, b),
+        0x50 => signed::sub_i32(a, b),
+        _ => Verdict::NotComputed,
     }
 }
 
-// AddU32, SubU32, MulU32, DivU32, ModU32
-fn fold_u32(op: u8, left: ConstVal, right: ConstVal) -> ConstVal
-    ensures { λ r. ⌜ (OneOf u32Commands op → r ≡ foldMeaning (meaning op) left right) ⌝ }
+// CmpU32Le, CmpU32Lt, AddU32, SubU32, MulU32, DivU32, ModU32
+fn fold_u32(op: u8, left: ConstVal, right: ConstVal) -> Verdict
+    ensures { λ r. ⌜ r ≡ evaluate (some (twoU32 (leafOf op u32Leaves))) left right ⌝ }
 {
     let ConstVal::U32(a) = left else {
-        return ConstVal::Unknown;
+        return verdict::declined(left, right);
     };
     let ConstVal::U32(b) = right else {
-        return ConstVal::Unknown;
+        return verdict::declined_right(right);
     };
     match op {
-        0x1E => constant::of_u32(unsigned::add_u32(a, b)),
-        0x1F => constant::of_u32(unsigned::sub_u32(a, b)),
-        0x20 => constant::of_u32(unsigned::mul_u32(a, b)),
-        0x21 => constant::of_u32(unsigned::div_u32(a, b)),
-        0x22 => constant::of_u32(unsigned::mod_u32(a, b)),
-        _ => ConstVal::Unknown,
+        0x1C => Verdict::Value(ConstVal::Bool(compare::le_u32(a, b))),
+        0x1D => Verdict::Value(ConstVal::Bool(compare::lt_u32(a, b))),
+        0x1E => unsigned::add_u32(a, b),
+        0x1F => unsigned::sub_u32(a, b),
+        0x20 => unsigned::mul_u32(a, b),
+        0x21 => unsigned::div_u32(a, b),
+        0x22 => unsigned::mod_u32(a, b),
+        _ => Verdict::NotComputed,
     }
 }
 
 // BoolAnd, BoolNot, BoolOr
-fn fold_bool(op: u8, left: ConstVal, right: ConstVal) -> ConstVal
-    ensures { λ r. ⌜ (OneOf boolCommands op → r ≡ foldMeaning (meaning op) left right) ⌝ }
+fn fold_bool(op: u8, left: ConstVal, right: ConstVal) -> Verdict
+    ensures { λ r. ⌜ r ≡ evaluate (some (twoBool (leafOf op boolLeaves))) left right ⌝ }
 {
     let ConstVal::Bool(a) = left else {
-        return ConstVal::Unknown;
+        return verdict::declined(left, right);
     };
     let ConstVal::Bool(b) = right else {
-        return ConstVal::Unknown;
+        return verdict::declined_right(right);
     };
     match op {
-        0x16 => ConstVal::Bool(compare::bool_and(a, b)),
-        0x17 => ConstVal::Bool(compare::bool_not(a)),
-        0x18 => ConstVal::Bool(compare::bool_or(a, b)),
-        _ => ConstVal::Unknown,
-    }
-}
-
-// CmpI32Le, CmpI32Lt
-fn fold_cmp_i32(op: u8, left: ConstVal, right: ConstVal) -> ConstVal
-    ensures { λ r. ⌜ (OneOf i32Tests op → r ≡ foldMeaning (meaning op) left right) ⌝ }
-{
-    let ConstVal::I32(a) = left else {
-        return ConstVal::Unknown;
-    };
-    let ConstVal::I32(b) = right else {
-        return ConstVal::Unknown;
-    };
-    match op {
-        0x1A => ConstVal::Bool(compare::le_i32(a, b)),
-        0x1B => ConstVal::Bool(compare::lt_i32(a, b)),
-        _ => ConstVal::Unknown,
-    }
-}
-
-// CmpU32Le, CmpU32Lt
-fn fold_cmp_u32(op: u8, left: ConstVal, right: ConstVal) -> ConstVal
-    ensures { λ r. ⌜ (OneOf u32Tests op → r ≡ foldMeaning (meaning op) left right) ⌝ }
-{
-    let ConstVal::U32(a) = left else {
-        return ConstVal::Unknown;
-    };
-    let ConstVal::U32(b) = right else {
-        return ConstVal::Unknown;
-    };
-    match op {
-        0x1C => ConstVal::Bool(compare::le_u32(a, b)),
-        0x1D => ConstVal::Bool(compare::lt_u32(a, b)),
-        _ => ConstVal::Unknown,
+        0x16 => Verdict::Value(ConstVal::Bool(compare::bool_and(a, b))),
+        0x17 => Verdict::Value(ConstVal::Bool(compare::bool_not(a))),
+        0x18 => Verdict::Value(ConstVal::Bool(compare::bool_or(a, b))),
+        _ => Verdict::NotComputed,
     }
 }
 
 // QAnd, QImpl, QNot, QOr
-fn fold_quad(op: u8, left: ConstVal, right: ConstVal) -> ConstVal
-    ensures { λ r. ⌜ (OneOf quadCommands op → r ≡ foldMeaning (meaning op) left right) ⌝ }
+fn fold_quad(op: u8, left: ConstVal, right: ConstVal) -> Verdict
+    ensures { λ r. ⌜ r ≡ evaluate (some (twoQuad (leafOf op quadLeaves))) left right ⌝ }
 {
     let ConstVal::Quad(a) = left else {
-        return ConstVal::Unknown;
+        return verdict::declined(left, right);
     };
     let ConstVal::Quad(b) = right else {
-        return ConstVal::Unknown;
+        return verdict::declined_right(right);
     };
     match op {
-        0x3D => ConstVal::Quad(quad::qand(a, b)),
-        0x3E => ConstVal::Quad(quad::qimpl(a, b)),
-        0x3F => ConstVal::Quad(quad::qnot(a)),
-        0x40 => ConstVal::Quad(quad::qor(a, b)),
-        _ => ConstVal::Unknown,
+        0x3D => Verdict::Value(ConstVal::Quad(quad::qand(a, b))),
+        0x3E => Verdict::Value(ConstVal::Quad(quad::qimpl(a, b))),
+        0x3F => Verdict::Value(ConstVal::Quad(quad::qnot(a))),
+        0x40 => Verdict::Value(ConstVal::Quad(quad::qor(a, b))),
+        _ => Verdict::NotComputed,
     }
 }
 
 // CmpEq, CmpNe: of any two known values.
-fn fold_cmp_eq(op: u8, left: ConstVal, right: ConstVal) -> ConstVal
-    ensures { λ r. ⌜ (OneOf equalities op → r ≡ foldMeaning (meaning op) left right) ⌝ }
+fn fold_equality(op: u8, left: ConstVal, right: ConstVal) -> Verdict
+    ensures { λ r. ⌜ r ≡ ifKnown left right (leafOf op equalityLeaves left right) ⌝ }
 {
     if let ConstVal::Unknown = left {
-        return ConstVal::Unknown;
+        return Verdict::LeftUnknown;
     }
     if let ConstVal::Unknown = right {
-        return ConstVal::Unknown;
+        return Verdict::RightUnknown;
     }
     let equal = constant::const_eq(left, right);
     match op {
-        0x19 => ConstVal::Bool(equal),
-        0x23 => ConstVal::Bool(!equal),
-        _ => ConstVal::Unknown,
+        0x19 => Verdict::Value(ConstVal::Bool(equal)),
+        0x23 => Verdict::Value(ConstVal::Bool(!equal)),
+        _ => Verdict::NotComputed,
     }
 }

@@ -1,15 +1,20 @@
 // CrystalFold: the constant fold over the instruction cells of one function, in place.
 ghost use mathlib.Core.Path.{_≡_};
-ghost use Rattle.crystalfold.specs.InPlace.{Foldable, Folded};
-use arms::RuleSet;
+ghost use Prim.Native.Nat.{_/_, _<_};
+ghost use lib.ListN.{length};
+ghost use Rattle.crystalfold.specs.Rules.{rulesOf};
+ghost use Rattle.crystalfold.specs.InPlace.{Foldable, Folded, Computed};
 use cells::check::REGISTERS;
 use cells::read::CELL;
 use command::Command;
 use leaves::constant::ConstVal;
+use leaves::verdict::Verdict;
+use rules::RuleSet;
 
 pub mod arms;
 pub mod command;
 pub mod load;
+pub mod rules;
 
 // Folds in place each command whose operands are known and that has a result; the answer is how many.
 pub fn fold_constants_and_identities(instrs: &mut [u8], rules: RuleSet) -> usize
@@ -33,10 +38,9 @@ pub fn fold_constants_and_identities(instrs: &mut [u8], rules: RuleSet) -> usize
             Command::Compute(op, dst, lhs, rhs) => {
                 let left = known[lhs];
                 let right = known[rhs];
-                let v = arms::fold_value(rules, op, left, right);
-                // Where the command stays, v is Unknown, and dst is forgotten.
+                let v = fold_command(instrs, at, rules, op, dst, left, right);
                 known[dst] = v;
-                rewrites += load::put_load(instrs, at, dst, v);
+                rewrites += load::one_if(v);
             }
             Command::Forget(dst) => {
                 known[dst] = ConstVal::Unknown;
@@ -45,4 +49,25 @@ pub fn fold_constants_and_identities(instrs: &mut [u8], rules: RuleSet) -> usize
         }
     }
     rewrites
+}
+
+// A computed command at the position `at`, by its verdict: the load of its value takes its place, or it stays. The answer is what is known of
+// dst after it.
+fn fold_command(
+    instrs: &mut [u8],
+    at: usize,
+    rules: RuleSet,
+    op: u8,
+    dst: usize,
+    left: ConstVal,
+    right: ConstVal,
+) -> ConstVal
+    requires { ⌜ (at < length (now instrs) / 16) × (dst < 65536) ⌝ }
+    ensures { λ r. ⌜ Computed (rulesOf rules op) left right at dst (now (instrs .entry)) (now (instrs .exit)) r ⌝ }
+{
+    let Verdict::Value(v) = arms::fold_value(rules, op, left, right) else {
+        return ConstVal::Unknown;
+    };
+    load::put_load(instrs, at, dst, v);
+    v
 }

@@ -1,13 +1,12 @@
 // The cell that loads a known value, written where its command stood.
 ghost use mathlib.Core.Path.{_≡_};
-ghost use mathlib.Core.List.{_++_};
-ghost use Prim.Native.Nat.{_+_, _*_, _/_, _<_};
-ghost use lib.ListN.{length, take, drop};
-ghost use Rattle.cells.specs.Cells.{cellAt};
+ghost use Prim.Native.Nat.{_/_, _<_};
+ghost use lib.ListN.{length};
 ghost use Rattle.cells.specs.View.{loadBytes, boolNumber};
 ghost use Rattle.crystalfold.specs.Fold.{oneIf};
-ghost use Rattle.crystalfold.specs.InPlace.{cellOr};
-ghost use Rattle.crystalfold.specs.Values.{knownOf, writtenOf, loadOf};
+ghost use Rattle.machine.specs.Values.{writtenOf};
+ghost use Rattle.crystalfold.specs.Rules.{knownOf};
+ghost use Rattle.crystalfold.specs.InPlace.{PutLoad, loadOrZeros};
 use cells::read;
 use leaves::constant::ConstVal;
 use leaves::float;
@@ -30,18 +29,25 @@ const LOAD_U32: u8 = 0x2E;
 // Each fold counts 1.
 const FOLD: usize = 1;
 
-// Writes the load of v, if it is known, over the cell at the position k; the answer is 1 if so, else 0. The last fact is
-// load_cell's.
-pub fn put_load(s: &mut [u8], k: usize, dst: usize, v: ConstVal) -> usize
+// Writes the load of v, if it is known, over the cell at the position k.
+pub fn put_load(s: &mut [u8], k: usize, dst: usize, v: ConstVal)
     requires { ⌜ (k < length (now s) / 16) × (dst < 65536) ⌝ }
-    ensures { λ r. ⌜ (now (s .exit) ≡ take (16 * k) (now (s .entry)) ++ (cellOr (cellAt (now (s .entry)) k) dst (writtenOf v) ++ drop (16 * k + 16) (now (s .entry))))
-        × (r ≡ oneIf (writtenOf v)) × (knownOf (writtenOf v) ≡ v) ⌝ }
+    ensures { λ _. ⌜ PutLoad k dst (now (s .entry)) (now (s .exit)) v ⌝ }
+{
+    if let ConstVal::Unknown = v {
+        return;
+    }
+    let cell = load_cell(dst, v);
+    read::put_cell(&cell, 0, s, k);
+}
+
+// The folds that a command with this value is.
+pub fn one_if(v: ConstVal) -> usize
+    ensures { λ r. ⌜ r ≡ oneIf (writtenOf v) ⌝ }
 {
     if let ConstVal::Unknown = v {
         return 0;
     }
-    let cell = load_cell(dst, v);
-    read::put_cell(&cell, 0, s, k);
     FOLD
 }
 
@@ -49,7 +55,7 @@ pub fn put_load(s: &mut [u8], k: usize, dst: usize, v: ConstVal) -> usize
 // all is zero. The bits are those of v: read back, they give it.
 pub fn load_cell(dst: usize, v: ConstVal) -> [u8; 16]
     requires { ⌜ dst < 65536 ⌝ }
-    ensures { λ r. ⌜ (r ≡ loadOf dst (writtenOf v)) × (knownOf (writtenOf v) ≡ v) ⌝ }
+    ensures { λ r. ⌜ (r ≡ loadOrZeros dst (writtenOf v)) × (knownOf (writtenOf v) ≡ v) ⌝ }
 {
     match v {
         ConstVal::Unknown => [0; 16],

@@ -2,24 +2,26 @@
 -- passing both validators and makes it no longer keeps the image so.
 use mathlib.Core.Path.{_≡_, _∙_, ap}
 use mathlib.Core.List.{List, [], _∷_, map}
-use Prim.Native.Nat.{ℕ, _*_, _≤_}
+use Prim.Native.Nat.{ℕ, _*_, _/_, _≤_}
 use native.Mathlib.Omega.{arith}
-use lib.ListN.{length, length-append}
+use lib.ListN.{length, drop, length-append}
 use Rattle.cells.specs.Cells.{cells, flat, Full}
-use Rattle.cells.specs.Check.{maxImage}
-use Rattle.cells.specs.Functions.{Function, there, Counted, functions, cellsOf, cellsOfAll}
+use Rattle.cells.specs.Check.{maxImage, maxInstructions, maxEvents}
+use Rattle.cells.specs.Functions.{Function, there, Counted, functionFrom, functions, cellsOf, cellsOfAll}
 use Rattle.cells.specs.Lists.{All}
+use Rattle.cells.specs.Spans.{part, SpanAt}
+use Rattle.cells.specs.declared.walk.Span.{Span}
 use Rattle.cells.specs.WellFormed.{InstructionGood, EventGood, WellFormed}
 use Rattle.cells.specs.declared.refusal.Checked.the-variants.{Good}
 use Rattle.cells.proofs.Answers.{or-left, or-right, or-both}
 use Rattle.cells.proofs.Cells.{full-cells, length-flat, cells-flat, flat-cells}
-use Rattle.cells.proofs.Checks.{instruction-good, event-good, head-good}
+use Rattle.cells.proofs.Checks.{instruction-good, event-good, head-good, head-fits}
 use Rattle.cells.proofs.Functions.{cells-of-functions, functions-of-cells}
-use Rattle.cells.proofs.Lists.{all-append, all-each}
+use Rattle.cells.proofs.Lists.{all-append, all-each, all-parts}
+use Rattle.cells.proofs.Spans.{length-part}
 use Rattle.sites.specs.Validators.{validateActivationSites, validateWriteSites, siteCheck}
-use Rattle.sites.proofs.Tally.{all-parts}
 use Rattle.image.specs.Image.{GoodFunction, GoodImage}
-use Rattle.image.specs.Sites.{GoodSites, SitesPass}
+use Rattle.image.specs.SiteCheck.{GoodSites, SitesPass}
 use Rattle.image.proofs.Good.{good-counted}
 
 -- a good function that its head counts, with all bytes of its cells
@@ -51,6 +53,21 @@ all-formed (f ∷ fs) g c l =
 -- every function of a good image is well-formed
 pub image-formed : (s : List ℕ) → GoodImage s → All WellFormed (functions (cells s))
 image-formed s g = all-formed (functions (cells s)) (g .all) (good-counted s g) (rw (cells-of-functions (cells s)) (full-cells s))
+
+-- a turn of the walk: the function at a cell is well-formed, and those behind it are
+pub formed-next : {s : List ℕ} {at : ℕ} {r : Span} → SpanAt s at r → All WellFormed (functions (drop at (cells s))) → All WellFormed (functionFrom (cells s) at ∷ functions (drop (r .end / 16) (cells s)))
+formed-next z a = rw (z .next) at a
+
+-- so its parts are within the limits
+pub few-cells : {s : List ℕ} {at : ℕ} {r : Span} → SpanAt s at r → All WellFormed (functions (drop at (cells s)))
+    → (length (part s (r .code) (r .events)) / 16 ≤ maxInstructions) × (length (part s (r .events) (r .end)) / 16 ≤ maxEvents)
+few-cells {s} {at} {r} z a =
+    let w : WellFormed (functionFrom (cells s) at) = formed-next z a .0 in
+    let f : Function = functionFrom (cells s) at in
+    let t = head-fits 0 0 (there f) (f .head) (w .head 0 0) in
+    let c = length-part s (r .code) (r .events) (omega (arith, z .events)) (omega (arith, z .within, z .end)) in
+    let e = length-part s (r .events) (r .end) (omega (arith, z .end)) (z .within) in
+    (omega (arith, c, z .events, w .counted .0, t .0), omega (arith, e, z .end, w .counted .1, t .1))
 
 -- and such functions, one after another, are a good image if they are not too many
 pub all-full : (fs : List Function) → All WellFormed fs → Full (cellsOfAll fs)

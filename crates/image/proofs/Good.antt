@@ -16,7 +16,7 @@ use Rattle.cells.specs.Lists.{All}
 use Rattle.cells.specs.Table.{eventRow}
 use Rattle.cells.specs.Check.{maxImage, codeCount, eventCount, isCommand, isEventKind, rowOk, headCheck, instructionCheck}
 use Rattle.cells.specs.Functions.{Function, Counted, there, functionAt, behind, functions}
-use Rattle.cells.specs.Refusals.{replyOf}
+use Rattle.cells.specs.Refusals.{numbersIn}
 use Rattle.cells.specs.View.{view, Registers}
 use Rattle.cells.specs.declared.refusal.Checked.{Checked}
 use Rattle.cells.specs.declared.refusal.Checked.the-variants.{Good}
@@ -27,14 +27,13 @@ use Rattle.cells.proofs.Functions.{functions-nil, functions-cons, functions-app
 use Rattle.cells.proofs.Lists.{all-each}
 use Rattle.cells.proofs.Views.{view-registers}
 use Rattle.sites.specs.Validators.{validateActivationSites, validateWriteSites, siteCheck}
-use Rattle.sites.specs.declared.Part.{Part}
-use Rattle.sites.specs.declared.Part.the-variants.{Code, Events}
-use Rattle.sites.proofs.Anywhere.{activation-anywhere, write-anywhere}
+use Rattle.cells.specs.declared.walk.Part.{Part}
+use Rattle.cells.specs.declared.walk.Part.the-variants.{Code, Events}
+use Rattle.sites.proofs.SitesFit.{activation-anywhere, write-anywhere}
 use Rattle.image.specs.Image.{cellCheck, cellsAnswer, functionAnswer, functionsAnswer, imageAnswer, GoodFunction, GoodImage}
-use Rattle.image.specs.Sites.{sitesAnswer, siteAnswer, GoodSites, SitesPass}
+use Rattle.image.specs.SiteCheck.{sitesAnswer, siteAnswer, GoodSites, SitesPass}
 use Rattle.image.specs.Operations.{ImageChecked, SiteChecked}
-use Rattle.image.proofs.Steps.{image-even}
-use Rattle.image.proofs.Walk.{accepted}
+use Rattle.image.proofs.Steps.{image-even, accepted}
 
 -- ---- the image check
 
@@ -130,10 +129,10 @@ same-good : {P : Type 0} (r a : Checked) → r ≡ a → (a ≡ Good) ↔ P → 
 same-good r a e i = ((λ g. i .0 (sym e ∙ g)), (λ p. e ∙ i .1 p))
 
 pub image-checked : (s : List ℕ) (r : Checked) → r ≡ imageAnswer s → ImageChecked s r
-image-checked s r e = record { answer = e; reply = ap replyOf e; accepted = same-good r (imageAnswer s) e (image-good s) }
+image-checked s r e = record { answer = e; reply = ap numbersIn e; accepted = same-good r (imageAnswer s) e (image-good s) }
 
 pub site-checked : (s : List ℕ) (r : Checked) → r ≡ siteAnswer s → SiteChecked s r
-site-checked s r e = record { answer = e; reply = ap replyOf e; accepted = same-good r (siteAnswer s) e (site-good s) }
+site-checked s r e = record { answer = e; reply = ap numbersIn e; accepted = same-good r (siteAnswer s) e (site-good s) }
 
 -- ---- for later passes
 

@@ -6,7 +6,7 @@ use Rattle.cells.specs.Table.{rows}
 use Rattle.sites.specs.Sites.{siteOf, eventSite, siteBy}
 use Rattle.sites.specs.Validators.{repeatAnswer, activationAnswer, judgeBy}
 use Rattle.image.specs.Image.{imageAnswer}
-use Rattle.image.specs.Sites.{siteAnswer}
+use Rattle.image.specs.SiteCheck.{siteAnswer}
 use Rattle.image.specs.Worked.{table, holds}
 
 pub all-hold : T (holds table)

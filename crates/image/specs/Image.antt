@@ -1,4 +1,4 @@
--- The image check (document 01, 'Answers of the operations'): 1 a length above 65,536 or no multiple of 16; then, cell by cell, 2, 3 and 4.
+-- Promise: the image check (document 01, 'Answers of the operations'): 1 a length above 65,536 or no multiple of 16; then, cell by cell, 2, 3 and 4.
 use Prim.Native.Nat.{ℕ, _+_, _%_, _≤_}
 use mathlib.Core.Path.{_≡_}
 use mathlib.Core.List.{List, [], _∷_}
@@ -10,18 +10,13 @@ use Rattle.cells.specs.Cells.{Cell, cells}
 use Rattle.cells.specs.Lists.{All}
 use Rattle.cells.specs.Table.{eventRow, headRow}
 use Rattle.cells.specs.Answers.{orElse}
-use Rattle.cells.specs.Check.{maxImage, codeCount, eventCount, isCommand, isEventKind, isHead, rowOk, instructionCheck, eventCheck, headCheck}
+use Rattle.cells.specs.Check.{maxImage, isCommand, isEventKind, isHead, rowOk, instructionCheck, eventCheck, headCheck}
 use Rattle.cells.specs.Functions.{Function, there, functions}
 use Rattle.cells.specs.declared.refusal.Checked.{Checked}
 use Rattle.cells.specs.declared.refusal.Checked.the-variants.{Good, Refused}
 use Rattle.cells.specs.declared.refusal.Refusal.the-variants.{Length}
-use Rattle.sites.specs.declared.Part.{Part}
-use Rattle.sites.specs.declared.Part.the-variants.{Code, Events}
-
--- how many cells of a part a head says
-abbrev pub countOf : Part → Cell → ℕ
-countOf Code h = codeCount h
-countOf Events h = eventCount h
+use Rattle.cells.specs.declared.walk.Part.{Part}
+use Rattle.cells.specs.declared.walk.Part.the-variants.{Code, Events}
 
 -- a cell of a part, the cell d of the image, in the function at a position
 abbrev pub cellCheck : Part → ℕ → ℕ → Cell → Checked

@@ -1,4 +1,4 @@
 pub mod Image
-pub mod Sites
+pub mod SiteCheck
 pub mod Operations
 pub mod Worked

@@ -1,15 +1,14 @@
 // The image check and the site check. Neither has a condition on the image's bytes, and neither writes.
 pub mod check;
-pub mod head;
 
 use cells::read::CELL;
 use cells::refusal::Checked;
-use sites::Part;
+use cells::walk;
 ghost use mathlib.Core.Path.{_≡_};
 ghost use Rattle.cells.specs.Cells.{cells};
 ghost use Rattle.cells.specs.Functions.{functions};
 ghost use Rattle.image.specs.Image.{imageAnswer};
-ghost use Rattle.image.specs.Sites.{sitesAnswer};
+ghost use Rattle.image.specs.SiteCheck.{sitesAnswer};
 ghost use Rattle.image.specs.Operations.{ImageChecked, SiteChecked};
 
 // The image check: 1, then 2, 3 and 4 cell by cell.
@@ -39,16 +38,15 @@ fn check_functions(image: &[u8]) -> Checked
     let mut at = 0;
     let mut position = 0;
     while at < n {
-        let code = head::count_of(image, at, Part::Code);
-        let events = head::count_of(image, at, Part::Events);
-        let a = CELL * at + CELL;
-        let b = a + CELL * code;
-        let e = b + CELL * events;
+        let f = walk::function_at(image, at);
+        let a = f.code;
+        let b = f.events;
+        let e = f.end;
         let r = sites::check_sites(&image[a..b], &image[b..e], position);
         let Checked::Good = r else {
             return r;
         };
-        at = at + 1 + code + events;
+        at = e / CELL;
         position += 1;
     }
     Checked::Good

@@ -1,4 +1,4 @@
--- Division of integers toward zero: quotient and remainder, and when the quotient of two i32 is one. Assumes nothing.
+-- Division of integers toward zero: quotient and remainder, and when the quotient of two i32 is one.
 use mathlib.Core.Path.{_≡_, refl, sym, _∙_, ap, subst}
 use mathlib.Core.Logic.{_⊎_, inl, inr, ⊎-elim}
 use mathlib.Core.Bool.{true}

@@ -1,4 +1,4 @@
--- Which floats and which patterns are NaN's. Assumes nothing.
+-- Which floats and which patterns are NaN's.
 use mathlib.Core.Path.{_≡_, refl, sym, _∙_, subst, subst⁻¹}
 use mathlib.Core.Bool.{Bool, true, false, not}
 use Prim.Native.Nat.{ℕ, _%_, _^_, _≤_, _<_}

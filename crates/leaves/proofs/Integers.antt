@@ -1,4 +1,4 @@
--- Laws of signed integers and their bits. Assumes nothing.
+-- Laws of signed integers and their bits.
 use mathlib.Core.Path.{_≡_, refl, sym, _∙_, ap, subst}
 use mathlib.Core.Logic.{_⊎_, inl, inr, ⊎-elim}
 use mathlib.Core.Bool.{true, false}
@@ -12,8 +12,9 @@ use lib.Dec.{T}
 use borrow.Author.Tests.{ltb-true, lt-ltb, le-ltb}
 use mir.Syntax.{w32, w64}
 use mir.Val.{SFits, ofZ, toZ}
-use mir.Facts.{toZ-ofZ}
-use Rattle.leaves.specs.declared.signed.I32Result.the-variants.{Value}
+use mir.Facts.{toZ-ofZ, sfits-widen}
+use Rattle.leaves.specs.declared.constant.ConstVal.the-variants.{I32}
+use Rattle.leaves.specs.declared.verdict.Verdict.the-variants.{Value}
 use Rattle.leaves.specs.Signed.{residue, wrap}
 
 -- ---- a difference of two naturals
@@ -49,6 +50,21 @@ fits64 n h = record { sfits = omega arith }
 
 pub above-half : (n : ℕ) → n < 4294967296 → 2147483648 ≤ n → pos n -ℤ pos 4294967296 ≡ toZ w32 n
 above-half n h k = sub-neg n 4294967296 h ∙ rw (le-ltb n 2147483648 k)
+
+-- as `bits_of` has it at 64 bits: a negative number and 2^32 are its bits, and another number is them
+pub raised : (a : ℤ) → SFits w32 a → ltZ (toZ w32 (ofZ w32 a)) (pos 0) ≡ true → toZ w64 (ofZ w64 (toZ w32 (ofZ w32 a))) +ℤ pos 4294967296 ≡ pos (ofZ w32 a)
+raised a h t = let k : SFits w64 a = sfits-widen tt h in simp (toZ-ofZ h, toZ-ofZ k) (below-zero a h (simp (toZ-ofZ h) at t))
+
+pub unraised : (a : ℤ) → SFits w32 a → ltZ (toZ w32 (ofZ w32 a)) (pos 0) ≡ false → pos (ofZ w32 a) ≡ toZ w32 (ofZ w32 a)
+unraised a h t = not-below-zero a (simp (toZ-ofZ h) at t) ∙ sym (toZ-ofZ h)
+
+-- and `of_bits`: bits from 2^31 on and 2^32 less are the number's
+pub lowered : (n : ℕ) → n < 4294967296 → 2147483648 ≤ n → toZ w64 (ofZ w64 (pos n)) -ℤ pos 4294967296 ≡ toZ w32 n
+lowered n h k = simp (toZ-ofZ (fits64 n h)) (above-half n h k)
+
+-- a number at 64 bits that is z is z
+pub kept64 : {x z : ℤ} → SFits w64 z → x ≡ z → toZ w64 (ofZ w64 x) ≡ z
+kept64 h e = ap (λ (y : ℤ). toZ w64 (ofZ w64 y)) e ∙ toZ-ofZ h
 
 -- ---- residues modulo 2^32: the bits of a sum, a difference and a product
 
@@ -129,6 +145,6 @@ residue-mul (negsuc m) (negsuc n) h k = residue-pos (suc m * suc n) ∙ same-res
     (right-sum (4294967296 - suc m) n (k .sfits))
 
 -- the answer made of the number whose bits are z's residue
-pub wrapped : (r z : ℤ) (n : ℕ) → mag r < 2147483648 → r ≡ toZ w32 n → n ≡ residue z 4294967296 → Value (toZ w32 (ofZ w32 r)) ≡ Value (wrap z)
+pub wrapped : (r z : ℤ) (n : ℕ) → mag r < 2147483648 → r ≡ toZ w32 n → n ≡ residue z 4294967296 → Value (I32 (toZ w32 (ofZ w32 r))) ≡ Value (I32 (wrap z))
 unfolding wrap
-wrapped r z n ok e f = ap Value (toZ-ofZ (record { sfits = ok }) ∙ e ∙ ap (λ (m : ℕ). toZ w32 m) f)
+wrapped r z n ok e f = ap (λ (x : ℤ). Value (I32 x)) (toZ-ofZ (record { sfits = ok }) ∙ e ∙ ap (λ (m : ℕ). toZ w32 m) f)

@@ -1,30 +1,34 @@
--- Laws that show the definitions of specs/ to be the right ones. Assumes nothing.
+-- Laws that show the definitions of specs/ to be the right ones.
 use mathlib.Core.Path.{_≡_, refl, sym, _∙_, ap, subst}
 use mathlib.Core.Logic.{⊎-elim}
-use mathlib.Core.Bool.{Bool, true, false, _&&_, Bool·beq}
+use mathlib.Core.Bool.{Bool, true, false, _&&_, not, Bool·beq}
 use mathlib.Core.List.{[], _∷_, map}
-use Prim.Native.Nat.{ℕ, zero, suc, _+_, _-_, _*_, _/_, _%_, _^_, _<_}
-use native.Mathlib.Nat.{div-add-mod'}
+use Prim.Native.Nat.{ℕ, zero, suc, _+_, _-_, _*_, _/_, _%_, _^_, _≤_, _<_}
+use native.Mathlib.Nat.{div-add-mod', mod-lt}
 use native.Mathlib.Omega.{arith}
-use lib.IntN.{ℤ, pos, negsuc, negℤ, natAbs, _+ℤ_, _*ℤ_}
-use lib.Signed.{leZ, quotZ, remZ}
+use lib.IntN.{ℤ, pos, negsuc, negℤ, natAbs, _+ℤ_, _-ℤ_, _*ℤ_}
+use lib.Signed.{leZ, ltZ, quotZ, remZ}
 use lib.Dec as Dec
-use lib.Dec.{eqb}
+use lib.Dec.{ltb, leb, eqb}
 use lib.Ieee
 use lib.Ieee as Ieee
 use lib.Ieee.{Float, nan, binary64}
-use borrow.Author.Tests.{eqb-true, eqb-false, eq-eqb, ne-eqb}
+use borrow.Author.Tests.{ltb-true, leb-true, eqb-true, eqb-false, lt-ltb, le-ltb, le-leb, lt-leb, eq-eqb, ne-eqb}
 use mir.Syntax.{w32}
 use mir.Val.{SFits, ofZ, toZ}
 use mir.Facts.{toZ-ofZ, ofZ-toZ, sfits-toZ}
 use Rattle.leaves.specs.declared.quad.Quad.{Quad}
 use Rattle.leaves.specs.declared.quad.Quad.the-variants.{N, F, T, S}
 use Rattle.leaves.specs.declared.quad.QuadResult.the-variants.{Value as ValueQ, Absent as AbsentQ}
-use Rattle.leaves.specs.declared.signed.I32Result.the-variants.{Value, Absent}
-use Rattle.leaves.specs.Signed.{residue, wrap, inI32, isZero, sameZ, divI32, modI32}
+use Rattle.leaves.specs.declared.constant.ConstVal.the-variants.{I32, U32, Fx}
+use Rattle.leaves.specs.declared.verdict.Verdict.{Verdict}
+use Rattle.leaves.specs.declared.verdict.Verdict.the-variants.{Value, NoResult}
+use Rattle.leaves.specs.Signed.{residue, wrap, inI32, isZero, sameZ, checkedAs, divI32, modI32}
+use Rattle.leaves.specs.Unsigned.{addU32, subU32, mulU32, divU32, modU32}
+use Rattle.leaves.specs.Fixed.{fxScale, addFx, subFx, mulFx, divFx}
 use Rattle.leaves.specs.Float.{floatOf, bitsOf}
 use Rattle.leaves.specs.Quads.{below, qAnd, qOr, qNot, qSame, quadOf, numberOf}
-use Rattle.leaves.proofs.Integers.{sub-neg}
+use Rattle.leaves.proofs.Integers.{less-or-not, sub-pos, sub-neg}
 use Rattle.leaves.proofs.Division as Division
 use Rattle.leaves.proofs.Division.{in-range-but-one}
 use Rattle.leaves.proofs.Floats.{above, back}
@@ -72,47 +76,142 @@ residue-congruent (negsuc n) = record {
       sym (ap (λ (x : ℕ). negℤ (pos x) +ℤ pos r) e ∙ sub-neg r (suc p) (omega arith) ∙ ap negsuc f);
 }
 
--- ---- I32: quotient and remainder
+-- ---- quotient and remainder
 
--- both have a result, a = q·b + r, and r is smaller than b and never of the other sign than a
-pub record Divided (a b : ℤ) : Type 0 where
-  pub q : ℤ
-  pub r : ℤ
-  pub quotient : divI32 a b ≡ Value q
-  pub remainder : modI32 a b ≡ Value r
-  pub whole : a ≡ q *ℤ b +ℤ r
-  pub size : natAbs r < natAbs b
-  pub not-negative : leZ (pos 0) a ≡ true → leZ (pos 0) r ≡ true
-  pub not-positive : leZ a (pos 0) ≡ true → leZ r (pos 0) ≡ true
+-- q is the exact z / d truncated toward zero: z = q·d + r, and r is smaller than d and never of the other sign than z
+pub record Truncated (z d q r : ℤ) : Type 0 where
+  pub whole : z ≡ q *ℤ d +ℤ r
+  pub size : natAbs r < natAbs d
+  pub not-negative : leZ (pos 0) z ≡ true → leZ (pos 0) r ≡ true
+  pub not-positive : leZ z (pos 0) ≡ true → leZ r (pos 0) ≡ true
 
 positive : (n : ℕ) → (n ≡ 0 → ⊥) → 0 < n
 positive zero h = absurd (h refl)
 positive (suc n) h = omega arith
 
--- but for divisor 0 and the least number by -1 ..
+truncated : (z d : ℤ) → isZero d ≡ false → Truncated z d (quotZ z d) (remZ z d)
+truncated z d n = record {
+  whole = Division.whole z d;
+  size = Division.size z d (positive (natAbs d) (eqb-false (natAbs d) 0 n));
+  not-negative = Division.not-negative z d;
+  not-positive = Division.not-positive z d;
+}
+
+-- ---- I32: both have a result ..
+pub record Divided (a b : ℤ) : Type 0 where
+  pub q : ℤ
+  pub r : ℤ
+  pub quotient : divI32 a b ≡ Value (I32 q)
+  pub remainder : modI32 a b ≡ Value (I32 r)
+  pub toward-zero : Truncated a b q r
+
+-- .. but for divisor 0 and the least number by -1 ..
 pub divided : (a b : ℤ) → SFits w32 a → SFits w32 b → isZero b ≡ false → ((a ≡ negsuc 2147483647) × (b ≡ negsuc 0) → ⊥) → Divided a b
 unfolding divI32 modI32
 divided a b h k z n =
     let t : inI32 (quotZ a b) ≡ true = ⊎-elim (λ (t : inI32 (quotZ a b) ≡ true). t) (λ (e : (a ≡ negsuc 2147483647) × (b ≡ negsuc 0)). absurd (n e)) (in-range-but-one a b h k) in
-    record {
-      q = quotZ a b;
-      r = remZ a b;
-      quotient = simp (z, t);
-      remainder = simp (z, t);
-      whole = Division.whole a b;
-      size = Division.size a b (positive (natAbs b) (eqb-false (natAbs b) 0 z));
-      not-negative = Division.not-negative a b;
-      not-positive = Division.not-positive a b;
-    }
+    record { q = quotZ a b; r = remZ a b; quotient = simp (z, t); remainder = simp (z, t); toward-zero = truncated a b z }
 
 -- .. which have neither
-pub undivided-zero : (a b : ℤ) → isZero b ≡ true → (divI32 a b ≡ Absent) × (modI32 a b ≡ Absent)
+pub undivided-zero : (a b : ℤ) → isZero b ≡ true → (divI32 a b ≡ NoResult) × (modI32 a b ≡ NoResult)
 unfolding divI32 modI32
 undivided-zero a b z = (simp (z), simp (z))
 
-pub undivided-least : (divI32 (negsuc 2147483647) (negsuc 0) ≡ Absent) × (modI32 (negsuc 2147483647) (negsuc 0) ≡ Absent)
+pub undivided-least : (divI32 (negsuc 2147483647) (negsuc 0) ≡ NoResult) × (modI32 (negsuc 2147483647) (negsuc 0) ≡ NoResult)
 unfolding divI32 modI32
 undivided-least = (refl, refl)
+
+-- ---- Fx: the exact number of thousandths, truncated toward zero, if an i32 holds it
+
+abbrev pub IfHeld : Verdict → ℤ → Type 0
+IfHeld v z = (inI32 z ≡ true → v ≡ Value (Fx z)) × (inI32 z ≡ false → v ≡ NoResult)
+
+if-held : (z : ℤ) → IfHeld (checkedAs Fx z) z
+if-held z = ((λ t. rw t), (λ t. rw t))
+
+pub sum-fx : (a b : ℤ) → IfHeld (addFx a b) (a +ℤ b)
+unfolding addFx
+sum-fx a b = if-held (a +ℤ b)
+
+pub difference-fx : (a b : ℤ) → IfHeld (subFx a b) (a -ℤ b)
+unfolding subFx
+difference-fx a b = if-held (a -ℤ b)
+
+pub product-fx : (a b : ℤ) → (q r : ℤ) × Truncated (a *ℤ b) fxScale q r × IfHeld (mulFx a b) q
+unfolding mulFx
+product-fx a b = (quotZ (a *ℤ b) fxScale, remZ (a *ℤ b) fxScale, truncated (a *ℤ b) fxScale refl, if-held (quotZ (a *ℤ b) fxScale))
+
+pub quotient-fx : (a b : ℤ) → isZero b ≡ false → (q r : ℤ) × Truncated (a *ℤ fxScale) b q r × IfHeld (divFx a b) q
+unfolding divFx
+quotient-fx a b z = (quotZ (a *ℤ fxScale) b, remZ (a *ℤ fxScale) b, truncated (a *ℤ fxScale) b z, rw z (if-held (quotZ (a *ℤ fxScale) b)))
+
+pub quotient-fx-zero : (a b : ℤ) → isZero b ≡ true → divFx a b ≡ NoResult
+unfolding divFx
+quotient-fx-zero a b z = rw z
+
+-- ---- U32: the exact number, if it is in range
+
+pub sum-u32 : (a b : ℕ) → (a + b < 2 ^ 32 → addU32 a b ≡ Value (U32 (a + b))) × (2 ^ 32 ≤ a + b → addU32 a b ≡ NoResult)
+unfolding addU32
+sum-u32 a b = ((λ h. rw (lt-ltb (a + b) 4294967296 h)), (λ h. rw (le-ltb (a + b) 4294967296 h)))
+
+pub product-u32 : (a b : ℕ) → (a * b < 2 ^ 32 → mulU32 a b ≡ Value (U32 (a * b))) × (2 ^ 32 ≤ a * b → mulU32 a b ≡ NoResult)
+unfolding mulU32
+product-u32 a b = ((λ h. rw (lt-ltb (a * b) 4294967296 h)), (λ h. rw (le-ltb (a * b) 4294967296 h)))
+
+-- what b is added to
+pub difference-u32 : (a b : ℕ) → (b ≤ a → (n : ℕ) × (subU32 a b ≡ Value (U32 n)) × (n + b ≡ a)) × (a < b → subU32 a b ≡ NoResult)
+unfolding subU32
+difference-u32 a b = ((λ h. (a - b, rw (le-leb b a h), omega arith)), (λ h. rw (lt-leb b a h)))
+
+-- a = q·b + r, with r below b; neither for divisor 0
+pub quotient-u32 : (a b : ℕ) → 0 < b → (q r : ℕ) × (divU32 a b ≡ Value (U32 q)) × (modU32 a b ≡ Value (U32 r)) × (a ≡ q * b + r) × (r < b)
+unfolding divU32 modU32
+quotient-u32 a b h =
+    let z : eqb b 0 ≡ false = ne-eqb b 0 (λ (e : b ≡ 0). omega arith) in
+    (a / b, a % b, rw z, rw z, sym (div-add-mod' a b), mod-lt a h)
+
+pub quotient-u32-zero : (a : ℕ) → (divU32 a 0 ≡ NoResult) × (modU32 a 0 ≡ NoResult)
+unfolding divU32 modU32
+quotient-u32-zero a = (refl, refl)
+
+-- ---- comparisons: the orders
+
+less-not : (a b : ℕ) → ltb a b ≡ not (leb b a)
+less-not a b = ⊎-elim
+    (λ (l : a < b). lt-ltb a b l ∙ sym (ap not (lt-leb b a l)))
+    (λ (l : b ≤ a). le-ltb a b l ∙ sym (ap not (le-leb b a l)))
+    (less-or-not a b)
+
+pub le-u32 : (a b : ℕ) → (leb a b ≡ true → a ≤ b) × (a ≤ b → leb a b ≡ true)
+le-u32 a b = (leb-true a b, le-leb a b)
+
+pub lt-u32 : (a b : ℕ) → (ltb a b ≡ true → a < b) × (a < b → ltb a b ≡ true)
+lt-u32 a b = (ltb-true a b, lt-ltb a b)
+
+-- a is at most b exactly when b is a and a natural number more
+pub le-i32 : (a b : ℤ) → leZ a b ≡ true → (n : ℕ) × (b ≡ a +ℤ pos n)
+le-i32 (pos a) (pos b) t = (b - a, ap pos (omega (arith, leb-true a b t)))
+le-i32 (pos a) (negsuc b) t = absurd (subst Dec.T (sym t) tt)
+le-i32 (negsuc a) (pos b) t = (suc a + b, sym (sub-pos (suc a + b) (suc a) (omega arith) ∙ ap pos (let e : suc a + b - suc a ≡ b = omega arith in e)))
+le-i32 (negsuc a) (negsuc b) t =
+    let h : b ≤ a = leb-true b a t in
+    let e : suc a - suc (a - b) ≡ b = omega arith in
+    (a - b, sym (sub-neg (a - b) (suc a) (omega arith) ∙ ap negsuc e))
+
+pub more-le : (a : ℤ) (n : ℕ) → leZ a (a +ℤ pos n) ≡ true
+more-le (pos a) n = le-leb a (a + n) (omega arith)
+more-le (negsuc a) n = ⊎-elim
+    (λ (l : n < suc a). rw (sub-neg n (suc a) l) (le-leb (suc a - suc n) a (omega arith)))
+    (λ (l : suc a ≤ n). rw (sub-pos n (suc a) l))
+    (less-or-not n (suc a))
+
+-- a is less than b exactly when b is not at most a
+pub lt-i32 : (a b : ℤ) → ltZ a b ≡ not (leZ b a)
+lt-i32 (pos a) (pos b) = less-not a b
+lt-i32 (pos a) (negsuc b) = refl
+lt-i32 (negsuc a) (pos b) = refl
+lt-i32 (negsuc a) (negsuc b) = less-not b a
 
 -- ---- equality of two integers
 

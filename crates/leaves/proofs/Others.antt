@@ -1,4 +1,4 @@
--- What the `else` of a `let .. else` on a known value is told: its tag is one of the others'. Assumes nothing.
+-- What the `else` of a `let .. else` on a known value is told: its tag is one of the others'.
 use Prim.Native.Nat.{ℕ}
 use mathlib.Core.Path.{_≡_, refl}
 use mathlib.Core.Bool.{Bool, true, false, not}
@@ -12,8 +12,12 @@ use denote.Enum.Declared.{tagOf}
 use Rattle.leaves.specs.declared.quad.Quad.{Quad}
 use Rattle.leaves.specs.declared.constant.ConstVal.{ConstVal}
 use Rattle.leaves.specs.declared.constant.ConstVal.the-variants.{Unknown, Quad as QuadV, Bool as BoolV, F64, I32, U32, Fx}
-use Rattle.leaves.specs.Constants.{onQuad, onBool, onF64, onI32, onU32, onFx, known}
+use Rattle.leaves.specs.Constants.{onQuad, onBool, onF64, onI32, onU32, onFx, isKnown}
+use Rattle.leaves.specs.declared.verdict.Verdict.{Verdict}
+use Rattle.leaves.specs.declared.verdict.Verdict.the-variants.{Value, LeftUnknown, RightUnknown, Unfit, NoResult, NotComputed}
+use Rattle.leaves.specs.Verdicts.{valueIn}
 use Rattle.leaves.proofs.constant.ConstVal.{the-type}
+use Rattle.leaves.proofs.verdict.Verdict.{the-type as the-verdict}
 
 has : (ts : List ℕ) (k : ℕ) → OneOf ts k → Dec.T (hasKey ts k)
 has ts k h = go (hasKey ts k) (λ (t : Dec.T (not (hasKey ts k))). miss ts k t h)
@@ -59,5 +63,14 @@ pub not-fx : {A : Type 0} (v : ConstVal) (f : ℤ → A) (d : A) → OneOf (0 �
 not-fx v f d h = among (λ (v : ConstVal). onFx v f d) d (0 ∷ 1 ∷ 2 ∷ 3 ∷ 4 ∷ 5 ∷ []) v h (λ t. refl) (λ x t. refl) (λ x t. refl) (λ x t. refl) (λ x t. refl) (λ x t. refl) (λ x t. absurd t)
 
 -- what is left of the values once Unknown is gone
-pub is-known : (v : ConstVal) → OneOf (1 ∷ 2 ∷ 3 ∷ 4 ∷ 5 ∷ 6 ∷ []) (tagOf the-type v) → known v ≡ true
-is-known v h = among known true (1 ∷ 2 ∷ 3 ∷ 4 ∷ 5 ∷ 6 ∷ []) v h (λ t. absurd t) (λ x t. refl) (λ x t. refl) (λ x t. refl) (λ x t. refl) (λ x t. refl) (λ x t. refl)
+pub is-known : (v : ConstVal) → OneOf (1 ∷ 2 ∷ 3 ∷ 4 ∷ 5 ∷ 6 ∷ []) (tagOf the-type v) → isKnown v ≡ true
+is-known v h = among isKnown true (1 ∷ 2 ∷ 3 ∷ 4 ∷ 5 ∷ 6 ∷ []) v h (λ t. absurd t) (λ x t. refl) (λ x t. refl) (λ x t. refl) (λ x t. refl) (λ x t. refl) (λ x t. refl)
+
+-- what is left of the verdicts once Value is gone
+pub no-value : (v : Verdict) → OneOf (1 ∷ 2 ∷ 3 ∷ 4 ∷ 5 ∷ []) (tagOf the-verdict v) → Unknown ≡ valueIn v
+no-value (Value x) h = absurd (miss (1 ∷ 2 ∷ 3 ∷ 4 ∷ 5 ∷ []) 0 tt h)
+no-value LeftUnknown h = refl
+no-value RightUnknown h = refl
+no-value Unfit h = refl
+no-value NoResult h = refl
+no-value NotComputed h = refl

@@ -1,20 +1,20 @@
--- How large a sum, a product or a quotient of signed integers is, and what a test of one says. Assumes nothing.
-use mathlib.Core.Path.{_≡_, refl, sym, _∙_, ap, subst}
+-- How large a sum, a product or a quotient of signed integers is, and what a test of one says.
+use mathlib.Core.Path.{_≡_, refl, sym, _∙_, ap, ap₂, subst}
 use mathlib.Core.Logic.{⊎-elim}
-use mathlib.Core.Bool.{Bool, true, false, cond}
+use mathlib.Core.Bool.{Bool, true, false, _&&_, and-true}
 use Prim.Native.Nat.{ℕ, zero, suc, _+_, _-_, _*_, _/_, _≤_, _<_}
 use native.Mathlib.Nat.{le-trans, le-of-eq, mul-le-mul, div-le-self, lt-of-le-of-lt}
 use native.Mathlib.Decide.{ℕ-discrete}
 use native.Mathlib.Omega.{arith}
 use lib.IntN.{ℤ, pos, negsuc, negℤ, natAbs, subℕ, _+ℤ_, _-ℤ_, _*ℤ_}
-use lib.Signed.{mag, ltZ, quotZ, remZ, mag-rem}
-use lib.Dec.{T, eqb}
-use borrow.Author.Tests.{ltb-true, ltb-false, lt-ltb, le-ltb, eq-eqb, ne-eqb}
+use lib.Signed.{mag, leZ, quotZ, remZ, mag-rem}
+use lib.Dec.{leb, eqb, leb·suc-suc}
+use borrow.Author.Tests.{ltb-true, eq-eqb, ne-eqb}
 use mir.Syntax.{w32, w64}
 use mir.Val.{SFits, ofZ, toZ}
 use mir.Facts.{toZ-ofZ, sfits-widen}
-use Rattle.leaves.specs.declared.signed.I32Result.the-variants.{Value, Absent}
-use Rattle.leaves.specs.Signed.{inI32, isZero, sameZ, checkedI32, divI32, modI32}
+use Rattle.leaves.specs.declared.constant.ConstVal.{ConstVal}
+use Rattle.leaves.specs.Signed.{inI32, isZero, sameZ, checkedAs}
 use Rattle.leaves.proofs.Integers.{less-or-not, sub-pos, sub-neg}
 
 -- ---- magnitudes
@@ -84,31 +84,35 @@ scaled-small a {k} h l = product-small a (pos k) (abs32 a h) l
 pub scaled-quotient : (a b : ℤ) {k : ℕ} → SFits w32 a → k ≤ 2147483648 → SFits w64 (quotZ (a *ℤ pos k) b)
 scaled-quotient a b {k} h l = quotient-small (a *ℤ pos k) b (scaled-small a h l)
 
+-- two i32 as they stand in a call
+pub passed : {A : Type 0} (f : ℤ → ℤ → A) (a b : ℤ) → mag a < 2147483648 → mag b < 2147483648 → f (toZ w32 (ofZ w32 a)) (toZ w32 (ofZ w32 b)) ≡ f a b
+passed f a b h k = ap₂ f (toZ-ofZ (record { sfits = h })) (toZ-ofZ (record { sfits = k }))
+
 -- an operand at 64 bits, as `wide` gives it, is the operand
 pub widened : {a r : ℤ} → SFits w32 a → r ≡ toZ w32 (ofZ w32 a) → toZ w64 (ofZ w64 r) ≡ a
 widened {a} h e = ap (λ (x : ℤ). toZ w64 (ofZ w64 x)) (e ∙ toZ-ofZ h) ∙ toZ-ofZ (sfits-widen tt h)
 
+-- an operation at 64 bits is that of the operands
+pub at64 : (f : ℤ → ℤ → ℤ) {a b r s : ℤ} → SFits w32 a → SFits w32 b → r ≡ toZ w32 (ofZ w32 a) → s ≡ toZ w32 (ofZ w32 b)
+    → f (toZ w64 (ofZ w64 r)) (toZ w64 (ofZ w64 s)) ≡ f a b
+at64 f h k e g = ap₂ f (widened h e) (widened k g)
+
 -- the answer at 64 bits is that of the exact number
-pub checked : (z y : ℤ) → SFits w64 z → z ≡ y → checkedI32 (toZ w64 (ofZ w64 z)) ≡ checkedI32 y
-checked z y h e = ap checkedI32 (toZ-ofZ h ∙ e)
+pub exact : (kind : ℤ → ConstVal) (z y : ℤ) → SFits w64 z → z ≡ y → checkedAs kind (toZ w64 (ofZ w64 z)) ≡ checkedAs kind y
+exact kind z y h e = ap (checkedAs kind) (toZ-ofZ h ∙ e)
 
 -- ---- tests
 
--- (over the literals: a wrong one is refused where the range fails)
-pub too-low : (z : ℤ) {k : ℕ} → ltZ z (negsuc k) ≡ true → 2147483647 ≤ k → inI32 z ≡ false
-too-low (pos n) {k} t l = absurd (subst T (sym t) tt)
-too-low (negsuc n) {k} t l = let m : k < n = ltb-true k n t in le-ltb n 2147483648 (omega arith)
+pub both-tests : (z : ℤ) → (leZ (negsuc 2147483647) z && leZ z (pos 2147483647)) ≡ inI32 z
+both-tests (pos n) = sym (leb·suc-suc n 2147483647)
+both-tests (negsuc n) = and-true (leb n 2147483647) ∙ sym (leb·suc-suc n 2147483647)
 
-pub too-high : (z : ℤ) {k : ℕ} → ltZ (pos k) z ≡ true → 2147483647 ≤ k → inI32 z ≡ false
-too-high (pos n) {k} t l = let m : k < n = ltb-true k n t in le-ltb n 2147483648 (omega arith)
-too-high (negsuc n) {k} t l = absurd (subst T (sym t) tt)
+-- what `in_i32` answered of z says of it
+pub in-i32-says : {z : ℤ} {b t : Bool} → SFits w64 z → b ≡ inI32 (toZ w64 (ofZ w64 z)) → b ≡ t → inI32 z ≡ t
+in-i32-says h e p = ap inI32 (sym (toZ-ofZ h)) ∙ sym e ∙ p
 
-pub in-range : (z : ℤ) {j k : ℕ} → ltZ z (negsuc j) ≡ false → ltZ (pos k) z ≡ false → j ≤ 2147483647 → k ≤ 2147483647 → SFits w32 z
-in-range (pos n) {j} {k} s t l m = record { sfits = let u : n ≤ k = ltb-false k n t in omega arith }
-in-range (negsuc n) {j} {k} s t l m = record { sfits = let u : n ≤ j = ltb-false j n s in omega arith }
-
-pub in-i32 : (z : ℤ) → SFits w32 z → inI32 z ≡ true
-in-i32 z h = lt-ltb (mag z) 2147483648 (h .sfits)
+pub sfits-in : (z : ℤ) → inI32 z ≡ true → SFits w32 z
+sfits-in z e = record { sfits = ltb-true (mag z) 2147483648 e }
 
 -- a test `b == 0` of an i32 speaks of its bits
 pub zero-bits : (b : ℤ) → SFits w32 b → ofZ w32 b ≡ 0 → isZero b ≡ true
@@ -119,37 +123,14 @@ nonzero-bits (pos zero) h ne = absurd (ne refl)
 nonzero-bits (pos (suc n)) h ne = (ne-eqb (suc n) 0 (λ (e : suc n ≡ 0). omega arith), omega arith, omega arith)
 nonzero-bits (negsuc n) h ne = let k : n < 2147483648 = h .sfits in (ne-eqb (suc n) 0 (λ (e : suc n ≡ 0). omega arith), omega arith, omega arith)
 
-pub not-zero : (b : ℤ) → SFits w32 b → isZero b ≡ false → 0 < ofZ w32 b
-not-zero b h z = nonzero-bits b h (λ (e : ofZ w32 b ≡ 0). subst T (sym (zero-bits b h e) ∙ z) tt) .1
-
 -- a divisor at 64 bits, as `wide` gives it
 pub divisor : {b r : ℤ} → SFits w32 b → r ≡ toZ w32 (ofZ w32 b) → (ofZ w32 b ≡ 0 → ⊥) → 0 < ofZ w64 r
 divisor {b} h e ne = subst (λ (x : ℤ). 0 < ofZ w64 x) (sym (e ∙ toZ-ofZ h)) (nonzero-bits b h ne .2)
 
--- ---- what an answer says of the range
-
--- a quotient was answered
-pub has-quotient : (a b q : ℤ) → divI32 a b ≡ Value q → (isZero b ≡ false) × (inI32 (quotZ a b) ≡ true)
-unfolding divI32
-has-quotient a b q e = go (isZero b) (inI32 (quotZ a b)) e
-  where
-    go : (s t : Bool) → cond s Absent (cond t (Value (quotZ a b)) Absent) ≡ Value q → (s ≡ false) × (t ≡ true)
-    go true t e = let x : _≡_ {A = ℕ} 0 1 = cc in absurd (omega arith)
-    go false true e = (refl, refl)
-    go false false e = let x : _≡_ {A = ℕ} 0 1 = cc in absurd (omega arith)
-
--- none was, and so there is no remainder
-pub no-quotient : (a b : ℤ) → divI32 a b ≡ Absent → modI32 a b ≡ Absent
-unfolding divI32 modI32
-no-quotient a b e = go (isZero b) (inI32 (quotZ a b)) e
-  where
-    go : (s t : Bool) → cond s Absent (cond t (Value (quotZ a b)) Absent) ≡ Absent → cond s Absent (cond t (Value (remZ a b)) Absent) ≡ Absent
-    go true t e = refl
-    go false true e = let x : _≡_ {A = ℕ} 0 1 = cc in absurd (omega arith)
-    go false false e = refl
-
-pub sfits-in : (z : ℤ) → inI32 z ≡ true → SFits w32 z
-sfits-in z e = record { sfits = ltb-true (mag z) 2147483648 e }
+-- a quotient at 64 bits fits
+pub divides : {a b r s : ℤ} → SFits w32 a → SFits w32 b → r ≡ toZ w32 (ofZ w32 a) → s ≡ toZ w32 (ofZ w32 b) → (ofZ w32 b ≡ 0 → ⊥)
+    → (0 < ofZ w64 s) × SFits w64 (quotZ (toZ w64 (ofZ w64 r)) (toZ w64 (ofZ w64 s)))
+divides {a} {b} h k e f ne = (divisor k f ne, subst (SFits w64) (sym (at64 quotZ h k e f)) (quotient32 a b h))
 
 pub rest-fits : (a b : ℤ) → SFits w32 a → SFits w32 (remZ a b)
 rest-fits a b h = record { sfits = lt-of-le-of-lt (mag-rem a b) (h .sfits) }

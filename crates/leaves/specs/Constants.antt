@@ -1,6 +1,6 @@
--- Known values and their equality, of document 01's module 2 (Quad and equality leaves).
--- Also: a value taken apart by its kind, and what a leaf's answer makes known.
--- Assumes nothing.
+-- Promise: known values and their equality, of document 01's module 2 (Quad and equality leaves).
+-- Also: a value taken apart by its kind.
+--
 use Prim.Native.Nat.{ℕ}
 use mathlib.Core.Bool.{Bool, true, false, Bool·beq}
 use lib.IntN.{ℤ}
@@ -8,12 +8,6 @@ use lib.Dec.{eqb}
 use lib.Ieee as Ieee
 use lib.Ieee.{Float}
 use Rattle.leaves.specs.declared.quad.Quad.{Quad}
-use Rattle.leaves.specs.declared.signed.I32Result.{I32Result}
-use Rattle.leaves.specs.declared.signed.I32Result.the-variants.{Value, Absent}
-use Rattle.leaves.specs.declared.unsigned.U32Result.{U32Result}
-use Rattle.leaves.specs.declared.unsigned.U32Result.the-variants.{Value as ValueU, Absent as AbsentU}
-use Rattle.leaves.specs.declared.float.F64Result.{F64Result}
-use Rattle.leaves.specs.declared.float.F64Result.the-variants.{Value as ValueF, Absent as AbsentF}
 use Rattle.leaves.specs.declared.constant.ConstVal.{ConstVal}
 use Rattle.leaves.specs.declared.constant.ConstVal.the-variants.{Unknown, Quad as QuadV, Bool as BoolV, F64, I32, U32, Fx}
 use Rattle.leaves.specs.Quads.{qSame}
@@ -51,8 +45,8 @@ abbrev pub onFx : {A : Type 0} → ConstVal → (ℤ → A) → A → A
 onFx v f d = byKind d (λ (x : Quad). d) (λ (x : Bool). d) (λ (x : Float). d) (λ (x : ℤ). d) (λ (x : ℕ). d) f v
 
 -- a value is known
-abbrev pub known : ConstVal → Bool
-known = byKind false (λ (x : Quad). true) (λ (x : Bool). true) (λ (x : Float). true) (λ (x : ℤ). true) (λ (x : ℕ). true) (λ (x : ℤ). true)
+abbrev pub isKnown : ConstVal → Bool
+isKnown = byKind false (λ (x : Quad). true) (λ (x : Bool). true) (λ (x : Float). true) (λ (x : ℤ). true) (λ (x : ℕ). true) (λ (x : ℤ). true)
 
 -- "Equality of two kinds is false; f64 equality is IEEE 754's". An unknown value equals none
 unfoldable pub constEq : ConstVal → ConstVal → Bool
@@ -63,21 +57,3 @@ constEq (F64 x) b = onF64 b (Ieee.eq x) false
 constEq (I32 x) b = onI32 b (sameZ x) false
 constEq (U32 x) b = onU32 b (eqb x) false
 constEq (Fx x) b = onFx b (sameZ x) false
-
--- ---- what a leaf's answer makes known: its value, or nothing
-
-abbrev pub ofI32 : I32Result → ConstVal
-ofI32 (Value x) = I32 x
-ofI32 Absent = Unknown
-
-abbrev pub ofU32 : U32Result → ConstVal
-ofU32 (ValueU x) = U32 x
-ofU32 AbsentU = Unknown
-
-abbrev pub ofFx : I32Result → ConstVal
-ofFx (Value x) = Fx x
-ofFx Absent = Unknown
-
-abbrev pub ofF64 : F64Result → ConstVal
-ofF64 (ValueF x) = F64 x
-ofF64 AbsentF = Unknown

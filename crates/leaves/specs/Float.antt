@@ -1,13 +1,14 @@
--- The f64 leaves, of document 01's module 1 (Number leaves), by the logic's account of IEEE 754 binary64 (lib.Ieee).
+-- Promise: the f64 leaves, of document 01's module 1 (Number leaves), by the logic's account of IEEE 754 binary64 (lib.Ieee).
 -- A value is a `Float`, with one `nan`; bits appear only where a value is read or written.
--- Assumes nothing.
+--
 use Prim.Native.Nat.{ℕ}
 use mathlib.Core.Bool.{false, cond}
 use lib.IntN.{pos}
 use lib.Ieee as Ieee
 use lib.Ieee.{Float, fin, binary64}
-use Rattle.leaves.specs.declared.float.F64Result.{F64Result}
-use Rattle.leaves.specs.declared.float.F64Result.the-variants.{Value, Absent}
+use Rattle.leaves.specs.declared.constant.ConstVal.the-variants.{F64}
+use Rattle.leaves.specs.declared.verdict.Verdict.{Verdict}
+use Rattle.leaves.specs.declared.verdict.Verdict.the-variants.{Value, NoResult}
 
 -- the value of a pattern of 64 bits; every NaN pattern is `nan`
 unfoldable pub floatOf : ℕ → Float
@@ -22,15 +23,15 @@ abbrev pub zeroFloat : Float
 zeroFloat = fin false 0 (pos 0)
 
 -- "one IEEE 754 operation, rounded once"
-abbrev pub addF64 : Float → Float → F64Result
-addF64 a b = Value (Ieee.add binary64 a b)
+abbrev pub addF64 : Float → Float → Verdict
+addF64 a b = Value (F64 (Ieee.add binary64 a b))
 
-abbrev pub subF64 : Float → Float → F64Result
-subF64 a b = Value (Ieee.sub binary64 a b)
+abbrev pub subF64 : Float → Float → Verdict
+subF64 a b = Value (F64 (Ieee.sub binary64 a b))
 
-abbrev pub mulF64 : Float → Float → F64Result
-mulF64 a b = Value (Ieee.mul binary64 a b)
+abbrev pub mulF64 : Float → Float → Verdict
+mulF64 a b = Value (F64 (Ieee.mul binary64 a b))
 
 -- "Division by either zero isn't folded; by NaN it is"
-unfoldable pub divF64 : Float → Float → F64Result
-divF64 a b = cond (Ieee.eq b zeroFloat) Absent (Value (Ieee.div binary64 a b))
+unfoldable pub divF64 : Float → Float → Verdict
+divF64 a b = cond (Ieee.eq b zeroFloat) NoResult (Value (F64 (Ieee.div binary64 a b)))

@@ -4,4 +4,5 @@ pub mod Fixed
 pub mod Float
 pub mod Quads
 pub mod Constants
+pub mod Verdicts
 pub mod Cases

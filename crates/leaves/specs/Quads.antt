@@ -1,6 +1,6 @@
--- The quad leaves, of document 01's module 2 (Quad and equality leaves): Belnap's four values in the approximation order.
+-- Promise: the quad leaves, of document 01's module 2 (Quad and equality leaves): Belnap's four values in the approximation order.
 -- A quad is what has been told: nothing (N), false (F), true (T), or both (S). Less told is below.
--- Assumes nothing.
+--
 use Prim.Native.Nat.{ℕ}
 use mathlib.Core.Bool.{Bool, true, false, _&&_, _||_, cond, Bool·beq}
 use lib.Dec.{eqb}

@@ -1,6 +1,6 @@
--- The I32 leaves, of document 01's module 1 (Number leaves). A value is an integer from -2^31 to 2^31 - 1.
+-- Promise: the I32 leaves, of document 01's module 1 (Number leaves). A value is an integer from -2^31 to 2^31 - 1.
 -- Add, subtract and multiply wrap modulo 2^32; division truncates toward zero, and the remainder goes with it.
--- Assumes nothing.
+--
 use Prim.Native.Nat.{ℕ, suc, _-_, _%_, _^_}
 use mathlib.Core.Bool.{Bool, false, cond}
 use lib.IntN.{ℤ, pos, negsuc, natAbs, _+ℤ_, _-ℤ_, _*ℤ_}
@@ -8,8 +8,10 @@ use lib.Signed.{mag, quotZ, remZ}
 use lib.Dec.{ltb, eqb}
 use mir.Syntax.{w32}
 use mir.Val.{toZ}
-use Rattle.leaves.specs.declared.signed.I32Result.{I32Result}
-use Rattle.leaves.specs.declared.signed.I32Result.the-variants.{Value, Absent}
+use Rattle.leaves.specs.declared.constant.ConstVal.{ConstVal}
+use Rattle.leaves.specs.declared.constant.ConstVal.the-variants.{I32}
+use Rattle.leaves.specs.declared.verdict.Verdict.{Verdict}
+use Rattle.leaves.specs.declared.verdict.Verdict.the-variants.{Value, NoResult}
 
 -- the residue of z modulo m, from 0 to m - 1
 unfoldable pub residue : ℤ → ℕ → ℕ
@@ -35,24 +37,24 @@ sameZ (pos m) (negsuc n) = false
 sameZ (negsuc m) (pos n) = false
 sameZ (negsuc m) (negsuc n) = eqb m n
 
--- z, or no result outside i32
-abbrev pub checkedI32 : ℤ → I32Result
-checkedI32 z = cond (inI32 z) (Value z) Absent
+-- z as a value of a kind, or no result outside i32
+abbrev pub checkedAs : (ℤ → ConstVal) → ℤ → Verdict
+checkedAs kind z = cond (inI32 z) (Value (kind z)) NoResult
 
 -- "I32 add, subtract and multiply wrap modulo 2^32"
-unfoldable pub addI32 : ℤ → ℤ → I32Result
-addI32 a b = Value (wrap (a +ℤ b))
+unfoldable pub addI32 : ℤ → ℤ → Verdict
+addI32 a b = Value (I32 (wrap (a +ℤ b)))
 
-unfoldable pub subI32 : ℤ → ℤ → I32Result
-subI32 a b = Value (wrap (a -ℤ b))
+unfoldable pub subI32 : ℤ → ℤ → Verdict
+subI32 a b = Value (I32 (wrap (a -ℤ b)))
 
-unfoldable pub mulI32 : ℤ → ℤ → I32Result
-mulI32 a b = Value (wrap (a *ℤ b))
+unfoldable pub mulI32 : ℤ → ℤ → Verdict
+mulI32 a b = Value (I32 (wrap (a *ℤ b)))
 
 -- "truncates toward zero; it has no result for divisor 0 or for -2,147,483,648 by -1", whose quotient alone is outside i32
-unfoldable pub divI32 : ℤ → ℤ → I32Result
-divI32 a b = cond (isZero b) Absent (checkedI32 (quotZ a b))
+unfoldable pub divI32 : ℤ → ℤ → Verdict
+divI32 a b = cond (isZero b) NoResult (checkedAs I32 (quotZ a b))
 
 -- "and neither has the remainder"
-unfoldable pub modI32 : ℤ → ℤ → I32Result
-modI32 a b = cond (isZero b) Absent (cond (inI32 (quotZ a b)) (Value (remZ a b)) Absent)
+unfoldable pub modI32 : ℤ → ℤ → Verdict
+modI32 a b = cond (isZero b) NoResult (cond (inI32 (quotZ a b)) (Value (I32 (remZ a b))) NoResult)

@@ -1,13 +1,10 @@
-// What is known of a register, equality of two such values, and how a leaf's answer becomes one.
+// What is known of a register, and equality of two such values.
 ghost use mathlib.Core.Path.{_≡_};
-ghost use Rattle.leaves.specs.Constants.{constEq, ofI32, ofU32, ofFx, ofF64};
+ghost use Rattle.leaves.specs.Constants.{constEq};
 use crate::compare::eq_f64;
 use crate::compare::eq_i32;
-use crate::float::F64Result;
 use crate::quad::Quad;
 use crate::quad::same;
-use crate::signed::I32Result;
-use crate::unsigned::U32Result;
 
 // Unknown stands first: it is what a table of these holds at the start.
 pub enum ConstVal {
@@ -63,41 +60,4 @@ pub fn const_eq(a: ConstVal, b: ConstVal) -> bool
             eq_i32(x, y)
         }
     }
-}
-
-// What a leaf's answer makes known: its value, or nothing.
-pub fn of_i32(r: I32Result) -> ConstVal
-    ensures { λ v. ⌜ v ≡ ofI32 r ⌝ }
-{
-    let I32Result::Value(x) = r else {
-        return ConstVal::Unknown;
-    };
-    ConstVal::I32(x)
-}
-
-pub fn of_u32(r: U32Result) -> ConstVal
-    ensures { λ v. ⌜ v ≡ ofU32 r ⌝ }
-{
-    let U32Result::Value(x) = r else {
-        return ConstVal::Unknown;
-    };
-    ConstVal::U32(x)
-}
-
-pub fn of_fx(r: I32Result) -> ConstVal
-    ensures { λ v. ⌜ v ≡ ofFx r ⌝ }
-{
-    let I32Result::Value(x) = r else {
-        return ConstVal::Unknown;
-    };
-    ConstVal::Fx(x)
-}
-
-pub fn of_f64(r: F64Result) -> ConstVal
-    ensures { λ v. ⌜ v ≡ ofF64 r ⌝ }
-{
-    let F64Result::Value(x) = r else {
-        return ConstVal::Unknown;
-    };
-    ConstVal::F64(x)
 }

@@ -1,12 +1,8 @@
 // f64 leaves. A value is the logic's `Float`: every NaN pattern is the one `nan`.
 ghost use mathlib.Core.Path.{_≡_};
 ghost use Rattle.leaves.specs.Float.{floatOf, bitsOf, addF64, subF64, mulF64, divF64};
-
-// What an f64 leaf answers.
-pub enum F64Result {
-    Value(f64),
-    Absent,
-}
+use crate::constant::ConstVal;
+use crate::verdict::Verdict;
 
 // The bits of infinity, and of the one NaN that is written.
 const INFINITY: u64 = 0x7ff0_0000_0000_0000;
@@ -36,30 +32,30 @@ pub fn to_bits(x: f64) -> u64
     f64::to_bits(x)
 }
 
-pub fn add_f64(a: f64, b: f64) -> F64Result
+pub fn add_f64(a: f64, b: f64) -> Verdict
     ensures { λ r. ⌜ r ≡ addF64 a b ⌝ }
 {
-    F64Result::Value(a + b)
+    Verdict::Value(ConstVal::F64(a + b))
 }
 
-pub fn sub_f64(a: f64, b: f64) -> F64Result
+pub fn sub_f64(a: f64, b: f64) -> Verdict
     ensures { λ r. ⌜ r ≡ subF64 a b ⌝ }
 {
-    F64Result::Value(a - b)
+    Verdict::Value(ConstVal::F64(a - b))
 }
 
-pub fn mul_f64(a: f64, b: f64) -> F64Result
+pub fn mul_f64(a: f64, b: f64) -> Verdict
     ensures { λ r. ⌜ r ≡ mulF64 a b ⌝ }
 {
-    F64Result::Value(a * b)
+    Verdict::Value(ConstVal::F64(a * b))
 }
 
 // Division by either zero has no result.
-pub fn div_f64(a: f64, b: f64) -> F64Result
+pub fn div_f64(a: f64, b: f64) -> Verdict
     ensures { λ r. ⌜ r ≡ divF64 a b ⌝ }
 {
     if b == 0.0 {
-        return F64Result::Absent;
+        return Verdict::NoResult;
     }
-    F64Result::Value(a / b)
+    Verdict::Value(ConstVal::F64(a / b))
 }

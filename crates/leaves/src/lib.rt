@@ -6,3 +6,4 @@ pub mod float;
 pub mod quad;
 pub mod signed;
 pub mod unsigned;
+pub mod verdict;

@@ -3,50 +3,55 @@ ghost use mathlib.Core.Path.{_≡_};
 ghost use Prim.Native.Nat.{_*_, _%_, _^_};
 ghost use mir.Syntax.{w32};
 ghost use mir.Val.{ofZ, toZ};
-ghost use Rattle.leaves.specs.Signed.{addI32, subI32, mulI32, divI32, modI32, checkedI32};
+ghost use Rattle.leaves.specs.Signed.{inI32, checkedAs, addI32, subI32, mulI32, divI32, modI32};
+ghost use Rattle.leaves.specs.declared.constant.ConstVal.the-variants.{I32};
+use crate::constant::ConstVal;
+use crate::verdict::Verdict;
 
-// What an I32 or Fx leaf answers.
-pub enum I32Result {
-    Value(i32),
-    Absent,
-}
+// The range of an i32.
+const LEAST: i64 = -2147483648;
 
-pub fn add_i32(a: i32, b: i32) -> I32Result
+const GREATEST: i64 = 2147483647;
+
+pub fn add_i32(a: i32, b: i32) -> Verdict
     ensures { λ r. ⌜ r ≡ addI32 a b ⌝ }
 {
-    I32Result::Value(of_bits(std::num::wrapping_add_u32(bits_of(a), bits_of(b))))
+    Verdict::Value(ConstVal::I32(of_bits(std::num::wrapping_add_u32(bits_of(a), bits_of(b)))))
 }
 
-pub fn sub_i32(a: i32, b: i32) -> I32Result
+pub fn sub_i32(a: i32, b: i32) -> Verdict
     ensures { λ r. ⌜ r ≡ subI32 a b ⌝ }
 {
-    I32Result::Value(of_bits(std::num::wrapping_sub_u32(bits_of(a), bits_of(b))))
+    Verdict::Value(ConstVal::I32(of_bits(std::num::wrapping_sub_u32(bits_of(a), bits_of(b)))))
 }
 
-pub fn mul_i32(a: i32, b: i32) -> I32Result
+pub fn mul_i32(a: i32, b: i32) -> Verdict
     ensures { λ r. ⌜ r ≡ mulI32 a b ⌝ }
 {
-    I32Result::Value(of_bits(wrapping_mul_u32(bits_of(a), bits_of(b))))
+    Verdict::Value(ConstVal::I32(of_bits(wrapping_mul_u32(bits_of(a), bits_of(b)))))
 }
 
 // At 64 bits the quotient of the least number by -1 exists, and is refused as too large.
-pub fn div_i32(a: i32, b: i32) -> I32Result
+pub fn div_i32(a: i32, b: i32) -> Verdict
     ensures { λ r. ⌜ r ≡ divI32 a b ⌝ }
 {
     if b == 0 {
-        return I32Result::Absent;
+        return Verdict::NoResult;
     }
     checked_i32(wide(a) / wide(b))
 }
 
 // With the sign of the left operand; none where there is no quotient.
-pub fn mod_i32(a: i32, b: i32) -> I32Result
+pub fn mod_i32(a: i32, b: i32) -> Verdict
     ensures { λ r. ⌜ r ≡ modI32 a b ⌝ }
 {
-    let I32Result::Value(_) = div_i32(a, b) else {
-        return I32Result::Absent;
-    };
-    I32Result::Value(a % b)
+    if b == 0 {
+        return Verdict::NoResult;
+    }
+    if in_i32(wide(a) / wide(b)) {
+        return Verdict::Value(ConstVal::I32(a % b));
+    }
+    Verdict::NoResult
 }
 
 // The two's complement bits of a.
@@ -84,15 +89,19 @@ pub fn wide(a: i32) -> i64
     a as i64
 }
 
-// z as an i32, where it is one.
-pub fn checked_i32(z: i64) -> I32Result
-    ensures { λ r. ⌜ r ≡ checkedI32 z ⌝ }
+// z lies in the range of an i32.
+pub fn in_i32(z: i64) -> bool
+    ensures { λ r. ⌜ r ≡ inI32 z ⌝ }
 {
-    if z < -2147483648 {
-        return I32Result::Absent;
+    (LEAST <= z) & (z <= GREATEST)
+}
+
+// z as an i32, where it is one.
+fn checked_i32(z: i64) -> Verdict
+    ensures { λ r. ⌜ r ≡ checkedAs I32 z ⌝ }
+{
+    if in_i32(z) {
+        return Verdict::Value(ConstVal::I32(z as i32));
     }
-    if 2147483647 < z {
-        return I32Result::Absent;
-    }
-    I32Result::Value(z as i32)
+    Verdict::NoResult
 }

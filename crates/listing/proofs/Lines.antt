@@ -9,7 +9,7 @@ use lib.Seq.{take-suc, take-all}
 use Rattle.cells.specs.Cells.{Cell, Full, cells, cellAt}
 use Rattle.cells.proofs.Cells.{length-cells, cell-at}
 use Rattle.listing.specs.Text.{hexDigit, hex, cellLine, cellLines, lineFeed}
-use Rattle.listing.specs.Contracts.{Written}
+use Rattle.listing.specs.Contracts.{TextWritten}
 use Rattle.listing.proofs.Pieces.{written-behind, written-next}
 
 hex-snoc : (s : List ℕ) (b : ℕ) → hex (s ++ b ∷ []) ≡ (hex s ++ hexDigit (b / 16) ∷ []) ++ hexDigit (b % 16) ∷ []
@@ -32,16 +32,16 @@ lines-snoc [] c = append-nil (cellLine c)
 lines-snoc (d ∷ cs) c = ap (λ (t : List ℕ). cellLine d ++ t) (lines-snoc cs c) ∙ sym (append-assoc (cellLine d) (cellLines cs) (cellLine c))
 
 -- one more byte of a cell, as two digits
-pub written-hex : (start c : List ℕ) (i : ℕ) {before after : List ℕ} {at : ℕ} → Written (start ++ hex (take i c)) before after at → i < length c → at + 1 < length before
-    → Written (start ++ hex (take (i + 1) c)) before (set (set after at (hexDigit (getD c i 0 / 16))) (at + 1) (hexDigit (getD c i 0 % 16))) (at + 1 + 1)
+pub written-hex : (start c : List ℕ) (i : ℕ) {before after : List ℕ} {at : ℕ} → TextWritten (start ++ hex (take i c)) before after at → i < length c → at + 1 < length before
+    → TextWritten (start ++ hex (take (i + 1) c)) before (set (set after at (hexDigit (getD c i 0 / 16))) (at + 1) (hexDigit (getD c i 0 % 16))) (at + 1 + 1)
 written-hex start c i {before} {after} {at} w h l =
     let m : at < length before = omega arith in
     let e : hex (take (i + 1) c) ≡ (hex (take i c) ++ hexDigit (getD c i 0 / 16) ∷ []) ++ hexDigit (getD c i 0 % 16) ∷ [] = rw (add-one i, take-suc c i 0) (hex-snoc (take i c) (getD c i 0)) in
     rw e (written-behind start (hex (take i c) ++ hexDigit (getD c i 0 / 16) ∷ []) (hexDigit (getD c i 0 % 16)) (written-behind start (hex (take i c)) (hexDigit (getD c i 0 / 16)) w m) l)
 
 -- one more cell's line
-pub written-line : (s : List ℕ) (i : ℕ) {before after last : List ℕ} {at r : ℕ} → Written (cellLines (take i (cells s))) before after at → i < length s / 16
-    → Written (take at after ++ cellLine (cellAt s i)) after last r → Written (cellLines (take (i + 1) (cells s))) before last r
+pub written-line : (s : List ℕ) (i : ℕ) {before after last : List ℕ} {at r : ℕ} → TextWritten (cellLines (take i (cells s))) before after at → i < length s / 16
+    → TextWritten (take at after ++ cellLine (cellAt s i)) after last r → TextWritten (cellLines (take (i + 1) (cells s))) before last r
 written-line s i w h v =
     let m : i < length (cells s) = omega (arith, length-cells s) in
     let e : cellLines (take (i + 1) (cells s)) ≡ cellLines (take i (cells s)) ++ cellLine (cellAt s i) = rw (add-one i, take-suc (cells s) i [], cell-at s i h) (lines-snoc (take i (cells s)) (cellAt s i)) in

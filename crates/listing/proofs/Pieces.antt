@@ -7,19 +7,19 @@ use lib.ListN.{length, set, take, drop, length-append, length-drop, take-append-
 use lib.Seq.{take-all, take-length, length-take-le}
 use Rattle.cells.specs.Cells.{over}
 use Rattle.cells.proofs.Over.{over-nil, over-take, over-drop, over-over, over-set, length-over}
-use Rattle.listing.specs.Contracts.{Written}
+use Rattle.listing.specs.Contracts.{TextWritten}
 
-pub written-none : (s : List ℕ) → Written [] s s 0
+pub written-none : (s : List ℕ) → TextWritten [] s s 0
 written-none s = record { end = refl; bytes = sym (over-nil s) }
 
 -- what stands before a position, written over itself
-pub written-start : (s : List ℕ) (at : ℕ) → at ≤ length s → Written (take at s) s s at
+pub written-start : (s : List ℕ) (at : ℕ) → at ≤ length s → TextWritten (take at s) s s at
 unfolding over
 written-start s at h =
     let e : length (take at s) ≡ at = length-take-le at s h in
     record { end = sym e; bytes = sym (rw e (take-append-drop at s)) }
 
-module _ {text before after : List ℕ} {at : ℕ} (w : Written text before after at) where
+module _ {text before after : List ℕ} {at : ℕ} (w : TextWritten text before after at) where
   pub written-take : take at after ≡ text
   written-take = rw (w .end, w .bytes) (over-take text before)
 
@@ -27,14 +27,14 @@ module _ {text before after : List ℕ} {at : ℕ} (w : Written text before afte
   written-length h = rw (w .bytes) (length-over text before (omega (arith, w .end)))
 
   -- one byte more
-  pub written-byte : (x : ℕ) → at < length before → Written (text ++ x ∷ []) before (set after at x) (at + 1)
+  pub written-byte : (x : ℕ) → at < length before → TextWritten (text ++ x ∷ []) before (set after at x) (at + 1)
   written-byte x h = record {
     end = simp length-append (omega (arith, w .end));
     bytes = rw (w .bytes) (over-set text before x at (sym (w .end)) h);
   }
 
   -- a piece more, as a function appends it
-  pub written-next : (piece : List ℕ) {last : List ℕ} {r : ℕ} → Written (take at after ++ piece) after last r → Written (text ++ piece) before last r
+  pub written-next : (piece : List ℕ) {last : List ℕ} {r : ℕ} → TextWritten (take at after ++ piece) after last r → TextWritten (text ++ piece) before last r
   unfolding over
   written-next piece {last} {r} v =
       let t : take at after ++ piece ≡ text ++ piece = ap (λ (s : List ℕ). s ++ piece) written-take in
@@ -45,8 +45,8 @@ module _ {text before after : List ℕ} {at : ℕ} (w : Written text before afte
       }
 
 -- one byte more, behind a piece
-pub written-behind : (start piece : List ℕ) (x : ℕ) {before after : List ℕ} {at : ℕ} → Written (start ++ piece) before after at → at < length before
-    → Written (start ++ (piece ++ x ∷ [])) before (set after at x) (at + 1)
+pub written-behind : (start piece : List ℕ) (x : ℕ) {before after : List ℕ} {at : ℕ} → TextWritten (start ++ piece) before after at → at < length before
+    → TextWritten (start ++ (piece ++ x ∷ [])) before (set after at x) (at + 1)
 written-behind start piece x w h = rw (append-assoc start piece (x ∷ [])) at (written-byte w x h)
 
 -- where a piece appended at a position ends
@@ -56,7 +56,7 @@ end-at s piece at r h e = omega (arith, e, length-append (take at s) piece, leng
 -- a copy into the part of a buffer from a position on
 pub written-copy : (piece s part : List ℕ) (at r : ℕ) → at ≤ length s → r ≡ length piece
     → part ≡ take (length piece) piece ++ drop (length piece) (take (length s - at) (drop at s))
-    → Written (take at s ++ piece) s (take at s ++ (part ++ drop (length s - at) (drop at s))) (at + r)
+    → TextWritten (take at s ++ piece) s (take at s ++ (part ++ drop (length s - at) (drop at s))) (at + r)
 unfolding over
 written-copy piece s part at r h e f =
     let l : length (take at s) ≡ at = length-take-le at s h in

@@ -9,7 +9,7 @@ use Rattle.cells.specs.Cells.{cells}
 use Rattle.cells.proofs.Cells.{length-cells, full-cells}
 use Rattle.listing.specs.Decimal.{decimal}
 use Rattle.listing.specs.Text.{lineFeed, cellLines, field, rewritesLine, rewrittenText, refusedText}
-use Rattle.listing.specs.Contracts.{listed, listedOver, Listing, Written}
+use Rattle.listing.specs.Contracts.{listed, listedOver, Listing, TextWritten}
 use Rattle.listing.specs.declared.Listed.the-variants.{Text, TooShort}
 use Rattle.listing.proofs.Numerals.{length-decimal}
 use Rattle.listing.proofs.Lines.{length-lines}
@@ -34,6 +34,6 @@ module _ (text before : List ℕ) where
   unfolding listed listedOver
   listing-short h = record { answer = rw (lt-leb (length text) (length before) h); bytes = rw (lt-leb (length text) (length before) h) }
 
-  pub listing-whole : {after : List ℕ} {r : ℕ} → length text ≤ length before → Written text before after r → Listing text before after (Text r)
+  pub listing-whole : {after : List ℕ} {r : ℕ} → length text ≤ length before → TextWritten text before after r → Listing text before after (Text r)
   unfolding listed listedOver
   listing-whole h w = record { answer = rw (le-leb (length text) (length before) h) (ap Text (w .end)); bytes = rw (le-leb (length text) (length before) h) (w .bytes) }

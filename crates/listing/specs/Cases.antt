@@ -1,22 +1,28 @@
--- Worked texts: document 01's printed example, the empty image, and refusals.
+-- Worked: texts: document 01's printed example, the empty image, refusals, and a check's answers.
 use mathlib.Core.Path.{_≡_, refl}
 use mathlib.Core.List.{List, [], _∷_, _++_, map}
 use Prim.Native.Nat.{ℕ}
 use lib.ListN.{replicate}
+use Rattle.cells.specs.Assembler.{Head, LoadI32, Ret}
 use Rattle.cells.specs.Cells.{Cell}
+use Rattle.cells.specs.declared.refusal.Checked.{Checked}
+use Rattle.cells.specs.declared.refusal.Checked.the-variants.{Good, Refused}
+use Rattle.cells.specs.declared.refusal.Refusal.the-variants.{UnknownCommand, ActivationSitesDiffer}
 use Rattle.listing.specs.Decimal.{decimal}
-use Rattle.listing.specs.Text.{rewritesLine, rewrittenText, refusedText}
+use Rattle.listing.specs.Text.{rewritesLine, rewrittenText, refusedText, refusalText, goodText, checkedText}
 
--- what is printed: cells and a count, or a refusal's number, position and detail
+-- what is printed: cells and a count, a refusal's number, position and detail, or a check's answer
 pub data Printed : Type 0 where
   rewritten : List Cell → ℕ → Printed
   refused : ℕ → ℕ → ℕ → Printed
+  checked : Checked → Printed
 
 pub textOf : Printed → List ℕ
 textOf (rewritten cs count) = rewrittenText cs count
 textOf (refused number position detail) = refusedText number position detail
+textOf (checked r) = checkedText r
 
-pub record Case : Type 0 where
+pub record TextCase : Type 0 where
   pub printed : Printed
   pub text : List ℕ
 
@@ -24,7 +30,7 @@ pub record Case : Type 0 where
 zeros : ℕ → List ℕ
 zeros n = replicate n 48 ++ 10 ∷ []
 
-pub cases : List Case
+pub cases : List TextCase
 cases =
     -- LoadI32 r1 5, AddI32 r2 r1 r1, Ret r2 in function 7, as rewritten:
     --   F0070003000000000000000000000000
@@ -34,7 +40,7 @@ cases =
     --   rewrites 1
     record {
       printed = rewritten (
-          (0xF0 ∷ 7 ∷ 0 ∷ 3 ∷ replicate 12 0) ∷ (0x2B ∷ 1 ∷ 0 ∷ 5 ∷ replicate 12 0) ∷ (0x2B ∷ 2 ∷ 0 ∷ 10 ∷ replicate 12 0) ∷ (0x0C ∷ 1 ∷ 2 ∷ replicate 13 0) ∷ []
+          Head 7 3 0 ∷ LoadI32 1 5 ∷ LoadI32 2 10 ∷ Ret 2 ∷ []
           ) 1;
       text = (70 ∷ 48 ∷ 48 ∷ 55 ∷ 48 ∷ 48 ∷ 48 ∷ 51 ∷ zeros 24) ++ (50 ∷ 66 ∷ 48 ∷ 49 ∷ 48 ∷ 48 ∷ 48 ∷ 53 ∷ zeros 24)
           ++ (50 ∷ 66 ∷ 48 ∷ 50 ∷ 48 ∷ 48 ∷ 48 ∷ 65 ∷ zeros 24) ++ (48 ∷ 67 ∷ 48 ∷ 49 ∷ 48 ∷ 50 ∷ zeros 26)
@@ -49,8 +55,20 @@ cases =
       printed = refused 26 2 4294967295;
       text = 114 ∷ 101 ∷ 102 ∷ 117 ∷ 115 ∷ 101 ∷ 100 ∷ 32 ∷ 50 ∷ 54 ∷ 32 ∷ 50 ∷ 32 ∷ 52 ∷ 50 ∷ 57 ∷ 52 ∷ 57 ∷ 54 ∷ 55 ∷ 50 ∷ 57 ∷ 53 ∷ 10 ∷ [];
     }
+    -- a check that passes: `good`
+    ∷ record { printed = checked Good; text = 103 ∷ 111 ∷ 111 ∷ 100 ∷ 10 ∷ [] }
+    -- a command that is none, the third function's cell 12: `refused 3 2 12`
+    ∷ record {
+      printed = checked (Refused (UnknownCommand 2 12));
+      text = 114 ∷ 101 ∷ 102 ∷ 117 ∷ 115 ∷ 101 ∷ 100 ∷ 32 ∷ 51 ∷ 32 ∷ 50 ∷ 32 ∷ 49 ∷ 50 ∷ 10 ∷ [];
+    }
+    -- sets of activation sites that differ have no detail: `refused 14 4095 0`
+    ∷ record {
+      printed = checked (Refused (ActivationSitesDiffer 4095));
+      text = 114 ∷ 101 ∷ 102 ∷ 117 ∷ 115 ∷ 101 ∷ 100 ∷ 32 ∷ 49 ∷ 52 ∷ 32 ∷ 52 ∷ 48 ∷ 57 ∷ 53 ∷ 32 ∷ 48 ∷ 10 ∷ [];
+    }
     ∷ []
 
-pub worked : map (λ (c : Case). textOf (c .printed)) cases ≡ map (λ (c : Case). c .text) cases
-unfolding textOf zeros cases decimal rewritesLine rewrittenText refusedText
+pub worked : map (λ (c : TextCase). textOf (c .printed)) cases ≡ map (λ (c : TextCase). c .text) cases
+unfolding textOf zeros cases decimal rewritesLine rewrittenText refusedText refusalText goodText
 worked = refl

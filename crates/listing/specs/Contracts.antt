@@ -1,4 +1,4 @@
--- What the functions that write text promise: the answer, and every byte of the lent buffer.
+-- Promise: what the functions that write text promise: the answer, and every byte of the lent buffer.
 use mathlib.Core.Path.{_≡_}
 use mathlib.Core.Bool.{cond}
 use mathlib.Core.List.{List}
@@ -23,6 +23,6 @@ pub record Listing (text before after : List ℕ) (r : Listed) : Type 0 where
 
 -- a text that is known to fit: it stands over the start of the buffer, and `at` is its end. What a function appends at a position is
 -- said so too: the text is then what stood before that position, and the piece
-pub record Written (text before after : List ℕ) (at : ℕ) : Type 0 where
+pub record TextWritten (text before after : List ℕ) (at : ℕ) : Type 0 where
   pub end : at ≡ length text
   pub bytes : after ≡ over text before

@@ -1,4 +1,4 @@
--- The decimal numeral of a number, in ASCII, and what makes a numeral right: document 01 asks for decimal numbers in the printed text.
+-- Promise: the decimal numeral of a number, in ASCII, and what makes a numeral right: document 01 asks for decimal numbers in the printed text.
 use mathlib.Core.Path.{_≡_}
 use mathlib.Core.Bool.{cond}
 use mathlib.Core.List.{List, [], _∷_, _++_}

@@ -1,9 +1,13 @@
--- The text that the printing program writes (document 01, 'Cells on either edge', the last paragraph), byte by byte, in ASCII.
+-- Promise: the text that the printing program writes (document 01, 'Cells on either edge', the last paragraph), byte by byte, in ASCII.
 use mathlib.Core.Bool.{cond}
 use mathlib.Core.List.{List, [], _∷_, _++_}
 use Prim.Native.Nat.{ℕ, _+_, _/_, _%_}
 use lib.Dec.{ltb}
 use Rattle.cells.specs.Cells.{Cell}
+use Rattle.cells.specs.Refusals.{numbersOf}
+use Rattle.cells.specs.declared.refusal.Checked.{Checked}
+use Rattle.cells.specs.declared.refusal.Checked.the-variants.{Good, Refused}
+use Rattle.cells.specs.declared.refusal.Refusal.{Refusal}
 use Rattle.listing.specs.Decimal.{decimal}
 
 abbrev pub lineFeed : ℕ
@@ -51,3 +55,14 @@ rewrittenText cs count = cellLines cs ++ rewritesLine count
 -- of a refused one: 'only `refused`, number, position, detail, all decimal with single blanks'
 unfoldable pub refusedText : ℕ → ℕ → ℕ → List ℕ
 refusedText number position detail = refusedWord ++ field number blank ++ field position blank ++ field detail lineFeed
+
+unfoldable pub refusalText : Refusal → List ℕ
+refusalText x = refusedText (numbersOf x .number) (numbersOf x .position) (numbersOf x .detail)
+
+-- of a check: `good`, or as of a refused image
+unfoldable pub goodText : List ℕ
+goodText = 103 ∷ 111 ∷ 111 ∷ 100 ∷ lineFeed ∷ []
+
+abbrev pub checkedText : Checked → List ℕ
+checkedText Good = goodText
+checkedText (Refused x) = refusalText x

@@ -5,11 +5,13 @@ ghost use Prim.Native.Nat.{_+_, _*_, _/_, _≤_, _<_};
 ghost use lib.ListN.{length, take};
 ghost use Rattle.cells.specs.Cells.{cells as «cellsOf», over};
 ghost use Rattle.listing.specs.Decimal.{decimal};
-ghost use Rattle.listing.specs.Text.{hexDigit, cellLine, cellLines, field, rewritesLine, rewrittenText, refusedText};
-ghost use Rattle.listing.specs.Contracts.{Listing, Written};
+ghost use Rattle.listing.specs.Text.{hexDigit, cellLine, cellLines, field, rewritesLine, rewrittenText, refusedText, goodText, checkedText};
+ghost use Rattle.listing.specs.Contracts.{Listing, TextWritten};
 use cells::read::CELL;
 use cells::read::wide;
+use cells::refusal::Checked;
 use cells::refusal::Numbers;
+use cells::refusal::numbers_of;
 
 // A text of so many bytes stands at the start of the buffer; or the buffer is too short for it, and is as it was.
 pub enum Listed {
@@ -24,6 +26,9 @@ const LINE: usize = 33;
 const COUNT_LINE: usize = 30;
 
 const REFUSED_LINE: usize = 71;
+
+// Bytes of the line of a check that refused nothing.
+const GOOD_LINE: usize = 5;
 
 // The text of an accepted image: its cells, and the number of rewrites. Bytes behind the last whole cell are left out.
 pub fn list_rewritten(cells: &[u8], rewrites: usize, text: &mut [u8]) -> Listed
@@ -55,11 +60,30 @@ pub fn list_refused(r: Numbers, text: &mut [u8]) -> Listed
     Listed::Text(append(&line[..n], text, 0))
 }
 
+// The text of a check's answer.
+pub fn list_checked(r: Checked, text: &mut [u8]) -> Listed
+    ensures { λ l. ⌜ Listing (checkedText r) (now (text .entry)) (now (text .exit)) l ⌝ }
+{
+    match r {
+        Checked::Good => list_good(text),
+        Checked::Refused(x) => list_refused(numbers_of(x), text),
+    }
+}
+
+fn list_good(text: &mut [u8]) -> Listed
+    ensures { λ l. ⌜ Listing goodText (now (text .entry)) (now (text .exit)) l ⌝ }
+{
+    if text.len() < GOOD_LINE {
+        return Listed::TooShort;
+    }
+    Listed::Text(append(b"good\n", text, 0))
+}
+
 // Each function below that takes `at` writes its piece there, and answers the position behind it.
 
 fn put_refused(number: usize, position: usize, detail: usize, line: &mut [u8]) -> usize
     requires { ⌜ 71 ≤ length (now line) ⌝ }
-    ensures { λ r. ⌜ Written (refusedText number position detail) (now (line .entry)) (now (line .exit)) r ⌝ }
+    ensures { λ r. ⌜ TextWritten (refusedText number position detail) (now (line .entry)) (now (line .exit)) r ⌝ }
 {
     let a = append(b"refused ", line, 0);
     let b = put_field(number, b' ', line, a);
@@ -69,7 +93,7 @@ fn put_refused(number: usize, position: usize, detail: usize, line: &mut [u8]) -
 
 fn put_rewrites(count: usize, line: &mut [u8]) -> usize
     requires { ⌜ 30 ≤ length (now line) ⌝ }
-    ensures { λ r. ⌜ Written (rewritesLine count) (now (line .entry)) (now (line .exit)) r ⌝ }
+    ensures { λ r. ⌜ TextWritten (rewritesLine count) (now (line .entry)) (now (line .exit)) r ⌝ }
 {
     let a = append(b"rewrites ", line, 0);
     put_field(count, b'\n', line, a)
@@ -78,7 +102,7 @@ fn put_rewrites(count: usize, line: &mut [u8]) -> usize
 // A number, and the byte behind it.
 fn put_field(n: usize, end: u8, text: &mut [u8], at: usize) -> usize
     requires { ⌜ at + 21 ≤ length (now text) ⌝ }
-    ensures { λ r. ⌜ Written (take at (now (text .entry)) ++ field n end) (now (text .entry)) (now (text .exit)) r ⌝ }
+    ensures { λ r. ⌜ TextWritten (take at (now (text .entry)) ++ field n end) (now (text .entry)) (now (text .exit)) r ⌝ }
 {
     let k = put_decimal(n, text, at);
     text[k] = end;
@@ -87,7 +111,7 @@ fn put_field(n: usize, end: u8, text: &mut [u8], at: usize) -> usize
 
 fn put_decimal(n: usize, text: &mut [u8], at: usize) -> usize
     requires { ⌜ at + length (decimal n) ≤ length (now text) ⌝ }
-    ensures { λ r. ⌜ Written (take at (now (text .entry)) ++ decimal n) (now (text .entry)) (now (text .exit)) r ⌝ }
+    ensures { λ r. ⌜ TextWritten (take at (now (text .entry)) ++ decimal n) (now (text .entry)) (now (text .exit)) r ⌝ }
 {
     if n < 10 {
         text[at] = b'0' + n as u8;
@@ -101,7 +125,7 @@ fn put_decimal(n: usize, text: &mut [u8], at: usize) -> usize
 // A line for each cell, from the start on.
 fn put_cells(cells: &[u8], text: &mut [u8]) -> usize
     requires { ⌜ 33 * (length (now cells) / 16) ≤ length (now text) ⌝ }
-    ensures { λ r. ⌜ Written (cellLines (cellsOf (now (cells .entry)))) (now (text .entry)) (now (text .exit)) r ⌝ }
+    ensures { λ r. ⌜ TextWritten (cellLines (cellsOf (now (cells .entry)))) (now (text .entry)) (now (text .exit)) r ⌝ }
 {
     let n = cells.len() / CELL;
     let mut at: usize = 0;
@@ -117,7 +141,7 @@ fn put_cells(cells: &[u8], text: &mut [u8]) -> usize
 
 fn put_line(cell: &[u8], text: &mut [u8], at: usize) -> usize
     requires { ⌜ (length (now cell) ≡ 16) × (at + 33 ≤ length (now text)) ⌝ }
-    ensures { λ r. ⌜ Written (take at (now (text .entry)) ++ cellLine (now (cell .entry))) (now (text .entry)) (now (text .exit)) r ⌝ }
+    ensures { λ r. ⌜ TextWritten (take at (now (text .entry)) ++ cellLine (now (cell .entry))) (now (text .entry)) (now (text .exit)) r ⌝ }
 {
     let mut k = at;
     let mut i: usize = 0;
@@ -134,7 +158,7 @@ fn put_line(cell: &[u8], text: &mut [u8], at: usize) -> usize
 
 fn append(piece: &[u8], text: &mut [u8], at: usize) -> usize
     requires { ⌜ at + length (now piece) ≤ length (now text) ⌝ }
-    ensures { λ r. ⌜ Written (take at (now (text .entry)) ++ now (piece .entry)) (now (text .entry)) (now (text .exit)) r ⌝ }
+    ensures { λ r. ⌜ TextWritten (take at (now (text .entry)) ++ now (piece .entry)) (now (text .entry)) (now (text .exit)) r ⌝ }
 {
     at + bytes::copy(piece, &mut text[at..])
 }

@@ -1,4 +1,5 @@
 pub mod Values
+pub mod Evaluate
 pub mod Compute
 pub mod Run
 pub mod Records

@@ -1,4 +1,4 @@
--- What demand 3 claims of two functions' instruction cells, P as sent and Q as returned, each by what its cells are: run from the same
+-- Promise: what demand 3 claims of two functions' instruction cells, P as sent and Q as returned, each by what its cells are: run from the same
 -- registers r, whatever these hold, against the same outside O, whatever it answers; the same record always gets the same answer, since an
 -- outside is a function of the record. `after P O r n` is the record after n steps (Run.antt).
 use mathlib.Core.Path.{_≡_}

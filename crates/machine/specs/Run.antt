@@ -1,4 +1,4 @@
--- How a function runs (document 01, 'How a function runs'; its sentences stand in quotes). "Only instruction cells are run": a function is here
+-- Promise: how a function runs (document 01, 'How a function runs'; its sentences stand in quotes). "Only instruction cells are run": a function is here
 -- the list of what its instruction cells are. A position is the list of cells still to run, since no record shows a position.
 use mathlib.Core.Bool.{cond}
 use mathlib.Core.Option.{Option, none, some}

@@ -1,4 +1,4 @@
--- Worked runs: short functions whose records are written out by hand from document 01, 'How a function runs'. One table, and one theorem of
+-- Worked: runs: short functions whose records are written out by hand from document 01, 'How a function runs'. One table, and one theorem of
 -- all its rows: every cause of an end, every kind of move, and each of the 81 commands.
 use mathlib.Core.Path.{_≡_, refl}
 use mathlib.Core.Bool.{true, false, cond}
@@ -15,88 +15,14 @@ use Rattle.leaves.specs.Fixed.{addFx, subFx, mulFx, divFx}
 use Rattle.leaves.specs.Float.{floatOf, bitsOf, divF64}
 use Rattle.leaves.specs.Quads.{quadOf}
 use Rattle.leaves.specs.Constants.{constEq}
-use Rattle.cells.specs.Bytes.{bytes}
 use Rattle.cells.specs.Cells.{Cell}
 use Rattle.cells.specs.Ins.{Const, quad, bool, f64, i32, u32, fx}
 use Rattle.cells.specs.Table.{rows, classOf}
 use Rattle.cells.specs.View.{view, loadCell}
-use Rattle.cells.specs.Written.{cell}
+use Rattle.cells.specs.Assembler.{cell, Label, Jmp, JmpIf, Ret, RetNothing, LoadBool, LoadF64, LoadFx, LoadI32, LoadQ, LoadU32, binary, unary, AddI32, CmpEq, CmpNe, QTruthAnd, Assert, Call, CallNothing, ClockRead, StoreVar}
 use Rattle.machine.specs.Values.{Value, con, other, Regs, set, put, shown}
 use Rattle.machine.specs.Compute.{meanings, meaning, compute}
 use Rattle.machine.specs.Run.{Cause, stopped, unfitOperand, noResult, missingLabel, returned, lastCell, Entry, did, ended, stop, go, Outside, exec, after}
-
--- ---- cells by the names of their commands; registers and labels below 256
-
-abbrev pub Label : ℕ → Cell
-Label l = cell (0x0A ∷ l ∷ [])
-
-abbrev pub Jmp : ℕ → Cell
-Jmp l = cell (0x08 ∷ l ∷ [])
-
-abbrev pub JmpIf : ℕ → ℕ → Cell
-JmpIf c l = cell (0x09 ∷ c ∷ 0 ∷ l ∷ [])
-
-abbrev pub Ret : ℕ → Cell
-Ret s = cell (0x0C ∷ 1 ∷ s ∷ [])
-
-abbrev pub RetNothing : Cell
-RetNothing = cell (0x0C ∷ [])
-
-abbrev pub LoadBool : ℕ → ℕ → Cell
-LoadBool d v = cell (0x28 ∷ d ∷ 0 ∷ v ∷ [])
-
-abbrev pub LoadF64 : ℕ → ℕ → Cell
-LoadF64 d v = cell (0x29 ∷ d ∷ 0 ∷ bytes 8 v)
-
-abbrev pub LoadFx : ℕ → ℕ → Cell
-LoadFx d v = cell (0x2A ∷ d ∷ 0 ∷ bytes 4 v)
-
-abbrev pub LoadI32 : ℕ → ℕ → Cell
-LoadI32 d v = cell (0x2B ∷ d ∷ 0 ∷ bytes 4 v)
-
-abbrev pub LoadQ : ℕ → ℕ → Cell
-LoadQ d v = cell (0x2C ∷ d ∷ 0 ∷ v ∷ [])
-
-abbrev pub LoadU32 : ℕ → ℕ → Cell
-LoadU32 d v = cell (0x2E ∷ d ∷ 0 ∷ bytes 4 v)
-
--- a command of two operands, or of one: dst, lhs, rhs · dst, src
-abbrev pub binary : ℕ → ℕ → ℕ → ℕ → Cell
-binary command d a b = cell (command ∷ d ∷ 0 ∷ a ∷ 0 ∷ b ∷ [])
-
-abbrev pub unary : ℕ → ℕ → ℕ → Cell
-unary command d a = cell (command ∷ d ∷ 0 ∷ a ∷ [])
-
-abbrev pub AddI32 : ℕ → ℕ → ℕ → Cell
-AddI32 = binary 0x13
-
-abbrev pub CmpEq : ℕ → ℕ → ℕ → Cell
-CmpEq = binary 0x19
-
-abbrev pub CmpNe : ℕ → ℕ → ℕ → Cell
-CmpNe = binary 0x23
-
-abbrev pub DivI32 : ℕ → ℕ → ℕ → Cell
-DivI32 = binary 0x27
-
-abbrev pub QTruthAnd : ℕ → ℕ → ℕ → Cell
-QTruthAnd = binary 0x41
-
--- Assert src · Call dst callee args, with and without a dst · ClockRead dst · StoreVar name src, without sites
-abbrev pub Assert : ℕ → Cell
-Assert s = cell (0x01 ∷ s ∷ [])
-
-abbrev pub Call : ℕ → Cell
-Call d = cell (0x02 ∷ 1 ∷ d ∷ 0 ∷ 9 ∷ [])
-
-abbrev pub CallNothing : Cell
-CallNothing = cell (0x02 ∷ 0 ∷ 0 ∷ 0 ∷ 9 ∷ [])
-
-abbrev pub ClockRead : ℕ → Cell
-ClockRead d = cell (0x03 ∷ d ∷ [])
-
-abbrev pub StoreVar : ℕ → Cell
-StoreVar s = cell (0x4D ∷ 5 ∷ 0 ∷ s ∷ [])
 
 -- ---- registers: at the start, register x holds "other" with the bits x
 
@@ -154,6 +80,21 @@ computes₁ o a v =
 abbrev pub fails : ℕ → Const → Const → Cause → Worked
 fails o a b e =
     worked (loadCell 1 a ∷ loadCell 2 b ∷ binary o 3 1 2 ∷ []) stops 3 (ended e (holding (other 0 ∷ con a ∷ con b ∷ [])) ∷ [])
+
+-- commands of two operands, of which one is k and the other one "other": r1 as at the start, then r2
+abbrev pub otherLeft : Const → ℕ → Worked
+otherLeft k o =
+    worked (loadCell 2 k ∷ binary o 3 1 2 ∷ []) stops 2 (ended unfitOperand (holding (other 0 ∷ other 1 ∷ con k ∷ [])) ∷ [])
+
+abbrev pub otherRight : Const → ℕ → Worked
+otherRight k o = worked (loadCell 1 k ∷ binary o 3 1 2 ∷ []) stops 2 (ended unfitOperand (holding (other 0 ∷ con k ∷ [])) ∷ [])
+
+abbrev pub besideOther : Const → List ℕ → List Worked
+besideOther k os = map (otherLeft k) os ++ map (otherRight k) os
+
+-- a command of one operand, which is "other"
+abbrev pub ofOther : ℕ → Worked
+ofOther o = worked (unary o 3 1 ∷ []) stops 1 (ended unfitOperand asStarted ∷ [])
 
 -- a command of any number, its first operand being 1: an outside action, whose answer goes to dst, r1, or nowhere
 abbrev pub answered : ℕ → Worked
@@ -240,12 +181,19 @@ runs =
     ∷ [])
     ∷ worked (LoadI32 1 0 ∷ CmpNe 2 3 1 ∷ []) stops 2
     (did (CmpNe 2 3 1) (holding (other 0 ∷ con (i32 0) ∷ [])) ∷ ended stopped (holding (other 0 ∷ con (i32 0) ∷ [])) ∷ [])
+    ∷ worked (LoadI32 1 0 ∷ CmpEq 2 3 1 ∷ []) stops 2
+    (did (CmpEq 2 3 1) (holding (other 0 ∷ con (i32 0) ∷ [])) ∷ ended stopped (holding (other 0 ∷ con (i32 0) ∷ [])) ∷ [])
+    ∷ worked (LoadI32 1 0 ∷ CmpNe 2 1 3 ∷ []) counts 2
+    (did (CmpNe 2 1 3) (holding (other 0 ∷ con (i32 0) ∷ []))
+    ∷ ended lastCell (holding (other 0 ∷ con (i32 0) ∷ con (u32 1) ∷ []))
+    ∷ [])
+    ∷ worked (CmpNe 0 3 3 ∷ []) counts 1 (did (CmpNe 0 3 3) asStarted ∷ ended lastCell (holding (con (u32 1) ∷ [])) ∷ [])
     ∷ worked (CmpEq 0 3 3 ∷ []) counts 1 (did (CmpEq 0 3 3) asStarted ∷ ended lastCell (holding (con (u32 1) ∷ [])) ∷ [])
     ∷ worked (LoadQ 0 1 ∷ LoadQ 1 2 ∷ QTruthAnd 2 0 1 ∷ []) counts 3
     (did (QTruthAnd 2 0 1) (holding (con (quad F) ∷ con (quad T) ∷ []))
     ∷ ended lastCell (holding (con (quad F) ∷ con (quad T) ∷ con (u32 1) ∷ []))
     ∷ [])
-    -- any other command with an "other" operand ends the run
+    -- any other computed command with an "other" operand ends the run (each beside a constant: at the end of the table)
     ∷ worked (AddI32 1 1 1 ∷ []) stops 1 (ended unfitOperand asStarted ∷ [])
     -- a computed command may write the register that it reads
     ∷ worked (LoadI32 0 5 ∷ AddI32 0 0 0 ∷ AddI32 0 0 0 ∷ Ret 0 ∷ []) stops 4 (ended (returned (some 0)) (holding (con (i32 20) ∷ [])) ∷ [])
@@ -349,7 +297,21 @@ runs =
     -- SequenceContains, SequenceGet, SequenceIsEmpty, SequenceLen, SequencePop, SequencePrepend, SequencePush, TupleGet
     ++ map answered (0x46 ∷ 0x47 ∷ 0x48 ∷ 0x49 ∷ 0x4A ∷ 0x4B ∷ 0x4C ∷ 0x51 ∷ [])
     -- Assert, EventPost, GateWrite, PulseEmit, StateUpdate, StoreVar
-    ++ map unanswered (0x01 ∷ 0x05 ∷ 0x07 ∷ 0x0B ∷ 0x10 ∷ 0x4D ∷ []))
+    ++ map unanswered (0x01 ∷ 0x05 ∷ 0x07 ∷ 0x0B ∷ 0x10 ∷ 0x4D ∷ [])
+    -- every computed command but CmpEq and CmpNe with an "other" operand. AddF64, DivF64, MulF64, SubF64
+    ++ besideOther (f64 0x3FF8000000000000) (0x11 ∷ 0x25 ∷ 0x3A ∷ 0x4E ∷ [])
+    -- AddFx, DivFx, MulFx, SubFx
+    ++ besideOther (fx 1500) (0x12 ∷ 0x26 ∷ 0x3B ∷ 0x4F ∷ [])
+    -- AddI32, CmpI32Le, CmpI32Lt, DivI32, ModI32, MulI32, SubI32
+    ++ besideOther (i32 7) (0x13 ∷ 0x1A ∷ 0x1B ∷ 0x27 ∷ 0x39 ∷ 0x3C ∷ 0x50 ∷ [])
+    -- CmpU32Le, CmpU32Lt, AddU32, SubU32, MulU32, DivU32, ModU32
+    ++ besideOther (u32 7) (0x1C ∷ 0x1D ∷ 0x1E ∷ 0x1F ∷ 0x20 ∷ 0x21 ∷ 0x22 ∷ [])
+    -- BoolAnd, BoolOr
+    ++ besideOther (bool true) (0x16 ∷ 0x18 ∷ [])
+    -- QAnd, QImpl, QOr
+    ++ besideOther (quad T) (0x3D ∷ 0x3E ∷ 0x40 ∷ [])
+    -- BoolNot, QNot
+    ++ map ofOther (0x17 ∷ 0x3F ∷ []))
 
 pub runs-hold : map (λ (w : Worked). after (map view (w .function)) (w .outside) initial (w .steps)) runs ≡ map (λ (w : Worked). w .entries) runs
 unfolding view loadCell classOf rows quadOf exec set put shown compute meaning meanings wrap addI32 subI32 mulI32 divI32 modI32 addU32 subU32 mulU32 divU32 modU32 addFx subFx mulFx divFx floatOf bitsOf divF64 constEq Ieee.ofBits Ieee.toBits Ieee.eq Ieee.add Ieee.sub Ieee.mul Ieee.div

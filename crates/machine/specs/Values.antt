@@ -1,4 +1,4 @@
--- What registers hold (document 01, 'How a function runs'): "Registers hold one of the six constant kinds, an f64 as its bits, or "other" with
+-- Promise: what registers hold (document 01, 'How a function runs'): "Registers hold one of the six constant kinds, an f64 as its bits, or "other" with
 -- 64 bits; records are compared by kind and bits". Every number is allowed as bits, so what is claimed of all registers covers more than there
 -- are.
 use mathlib.Core.Bool.{cond}
@@ -7,8 +7,8 @@ use mathlib.Core.List.{List, [], _∷_}
 use Prim.Native.Nat.{ℕ, zero, suc}
 use lib.Dec.{eqb}
 use mir.Syntax.{w32}
-use mir.Val.{toZ}
-use Rattle.leaves.specs.Float.{floatOf}
+use mir.Val.{toZ, ofZ}
+use Rattle.leaves.specs.Float.{floatOf, bitsOf}
 use Rattle.leaves.specs.declared.constant.ConstVal.{ConstVal}
 use Rattle.leaves.specs.declared.constant.ConstVal.the-variants.{Unknown, Quad as QuadV, Bool as BoolV, F64, I32, U32, Fx}
 use Rattle.cells.specs.Check.{registers}
@@ -53,3 +53,13 @@ valueOf (fx n) = Fx (toZ w32 n)
 abbrev pub operand : Value → ConstVal
 operand (con k) = valueOf k
 operand (other n) = Unknown
+
+-- a value by its bits, as a register holds it and a load writes it; none of a value that isn't known
+abbrev pub writtenOf : ConstVal → Option Const
+writtenOf Unknown = none
+writtenOf (QuadV q) = some (quad q)
+writtenOf (BoolV b) = some (bool b)
+writtenOf (F64 x) = some (f64 (bitsOf x))
+writtenOf (I32 z) = some (i32 (ofZ w32 z))
+writtenOf (U32 n) = some (u32 n)
+writtenOf (Fx z) = some (fx (ofZ w32 z))

@@ -1,2 +1,4 @@
-pub mod Replies
+pub mod Words
+pub mod Kept
 pub mod Texts
+pub mod Replies

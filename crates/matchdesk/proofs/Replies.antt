@@ -1,67 +1,71 @@
--- What the rewrite's contract gives the program: the bytes that an accepted image is rewritten to, and the program's text for each answer.
+-- What the rewrite's contract gives the program: the bytes that an accepted image is rewritten to, and what is said of each answer.
 use mathlib.Core.Path.{_≡_, refl, sym, _∙_, ap}
 use mathlib.Core.List.{List}
 use Prim.Native.Nat.{ℕ, _≤_, _<_}
 use native.Mathlib.Omega.{arith}
-use lib.ListN.{length, take}
-use Rattle.cells.specs.Cells.{cells, over}
+use borrow.Author.Tests.{lt-leb}
+use lib.ListN.{length}
+use Rattle.cells.specs.Cells.{over}
 use Rattle.cells.specs.Check.{maxImage}
-use Rattle.cells.specs.Refusals.{numbersOf}
 use Rattle.cells.specs.declared.refusal.Checked.{Checked}
 use Rattle.cells.specs.declared.refusal.Checked.the-variants.{Good, Refused as RefusedBy}
 use Rattle.cells.specs.declared.refusal.Refusal.{Refusal}
-use Rattle.cells.proofs.Over.{over-take, length-over}
-use Rattle.listing.specs.Text.{rewrittenText, refusedText}
+use Rattle.cells.specs.declared.refusal.Refusal.the-variants.{Length}
+use Rattle.cells.proofs.Over.{over-take}
+use Rattle.crystalfold.specs.declared.rules.RuleSet.the-variants.{Default}
+use Rattle.image.specs.Image.{imageAnswer}
+use Rattle.image.specs.SiteCheck.{siteAnswer}
 use Rattle.passes.specs.Passes.{passBytes, passCount, passCheck, answerAs, outputAs, passAnswer, passOutput}
-use Rattle.passes.specs.Contracts.{isWritten, RewriteDone}
+use Rattle.passes.specs.Contracts.{RewriteDone}
 use Rattle.passes.specs.declared.OptReport.{OptReport}
-use Rattle.passes.specs.declared.Pass.the-variants.{Default}
 use Rattle.passes.specs.declared.Rewrite.{Rewrite}
 use Rattle.passes.specs.declared.Rewrite.the-variants.{Written, Refused}
 use Rattle.passes.proofs.Checked.{check-long}
-use Rattle.matchdesk.specs.Program.{answerText, programText}
-
--- what is known of an accepted image's length, and of the bytes in the output
-pub record Accepted (image out : List ℕ) (n : ℕ) : Type 0 where
-  pub most : n ≤ maxImage
-  pub fits : n ≤ length out
-  pub bytes : take n out ≡ passBytes Default image
+use Rattle.matchdesk.specs.Program.{whole, written, programTexts}
+use Rattle.matchdesk.specs.Contracts.{Fits}
+use Rattle.matchdesk.specs.declared.Job.{Job}
+use Rattle.matchdesk.specs.declared.Job.the-variants.{Rewrite as RewriteJob, Bytes, Check}
 
 written-only : (a : Checked) (m count n : ℕ) (report : OptReport) → answerAs a m count ≡ Written n report → (a ≡ Good) × (m ≡ n)
 written-only Good m count n report e = (refl, cc)
 written-only (RefusedBy x) m count n report e = let z : _≡_ {A = ℕ} 0 1 = cc in absurd (omega arith)
 
-module _ (image before after : List ℕ) (r : Rewrite) (w : RewriteDone image before after r) where
-  pub accepted : (n : ℕ) (report : OptReport) → r ≡ Written n report → Accepted image after n
+module _ (image before after : List ℕ) where
+  -- the answer lies within the output, and its text within a buffer
+  pub reply-fits : (r : Rewrite) → RewriteDone Default image before after r → length after ≡ length before → (output : List ℕ) → 135198 ≤ length output
+      → Fits r after output
+  reply-fits (Written n report) w l output h =
+      let g = w .done .accepted .0 refl in
+      let s : n ≤ length image = w .done .shorter in
+      record { within = omega (arith, s, g .1); most = omega (arith, s, g .0 .image .short); room = h }
+  reply-fits (Refused x) w l output h = record { within = omega arith; most = omega arith; room = h }
+
+  -- what goes by an answer, and by the bytes written where it has any, is what the definitions give
+  pub said : {X : Type 0} (f : Rewrite → List ℕ → X) → ((x : Refusal) (s t : List ℕ) → f (Refused x) s ≡ f (Refused x) t) → (r : Rewrite)
+      → RewriteDone Default image before after r → length before ≡ maxImage → f (passAnswer whole image maxImage) (passBytes whole image) ≡ f r (written r after)
   unfolding passAnswer passOutput
-  accepted n report e =
-      let new : List ℕ = passBytes Default image in
-      let t = written-only (passCheck image (length before)) (length new) (passCount Default image) n report (sym (w .done .answer) ∙ e) in
-      let g = w .done .accepted .0 (ap isWritten e) in
-      let s : n ≤ length image = rw e at (w .done .shorter) in
+  said f same (Written n report) w h =
+      let new : List ℕ = passBytes whole image in
+      let t = written-only (passCheck image (length before)) (length new) (passCount whole image) n report (sym (w .done .answer)) in
       let b : after ≡ over new before = w .done .bytes ∙ ap (λ (a : Checked). outputAs a new before) (t .0) in
-      let h : length new ≤ length before = omega (arith, t .1, s, g .1) in
-      record {
-        most = omega (arith, s, g .0 .image .short);
-        fits = omega (arith, t .1, ap length b, length-over new before h, h);
-        bytes = rw (b, ← t .1) (over-take new before);
-      }
+      let e : passAnswer whole image maxImage ≡ Written n report = rw (← h) (sym (w .done .answer)) in
+      rw (e, b, ← t .1, over-take new before)
+  said f same (Refused x) w h =
+      let e : passAnswer whole image maxImage ≡ Refused x = rw (← h) (sym (w .done .answer)) in
+      rw e (same x (passBytes whole image) (written (Refused x) after))
 
-  pub program-reply : length before ≡ maxImage → programText image ≡ answerText r (cells (passBytes Default image))
-  unfolding programText
-  program-reply h = rw (w .done .answer, h)
+-- ---- an input past the longest image: its bytes do not matter
 
-  pub program-rewritten : (n : ℕ) (report : OptReport) → r ≡ Written n report → length before ≡ maxImage
-      → programText image ≡ rewrittenText (cells (take n after)) (report .«num_rewrites»)
-  unfolding answerText
-  program-rewritten n report e h = program-reply h ∙ rw (e, accepted n report e .bytes)
+answer-long : (image : List ℕ) → maxImage < length image → passAnswer whole image maxImage ≡ Refused Length
+unfolding passAnswer
+answer-long image h = rw (← check-long image maxImage h)
 
-  pub program-refused : (f : Refusal) → r ≡ Refused f → length before ≡ maxImage
-      → programText image ≡ refusedText (numbersOf f .number) (numbersOf f .position) (numbersOf f .detail)
-  unfolding answerText
-  program-refused f e h = program-reply h ∙ rw e
+site-long : (image : List ℕ) → maxImage < length image → siteAnswer image ≡ RefusedBy Length
+unfolding siteAnswer imageAnswer
+site-long image h = simp (lt-leb _ _ h)
 
--- an input past the longest image has one text, whatever its bytes are
-pub program-long : (image : List ℕ) → maxImage < length image → programText image ≡ refusedText 1 0 0
-unfolding programText answerText passAnswer
-program-long image h = rw (← check-long image maxImage h)
+pub program-long : (job : Job) (s t : List ℕ) → maxImage < length s → maxImage < length t → programTexts job s ≡ programTexts job t
+unfolding programTexts
+program-long RewriteJob s t h k = rw (answer-long s h, answer-long t k)
+program-long Bytes s t h k = rw (answer-long s h, answer-long t k)
+program-long Check s t h k = rw (site-long s h, site-long t k)

@@ -1,1 +1,4 @@
 pub mod Program
+pub mod Contracts
+pub mod Reading
+pub mod Cases

@@ -1,41 +1,89 @@
--- What the printing program writes for an image (document 01, 'Cells on either edge', the last paragraph), and what a read may answer.
-use mathlib.Core.List.{List}
-use Prim.Native.Nat.{ℕ, min, _≤_, _<_}
-use Rattle.cells.specs.Cells.{Cell, cells}
+-- Promise: what the program is asked for, and what it writes to standard output and to standard error for each job. The text of the rewrite's answer is
+-- document 01's ('Cells on either edge', the last paragraph).
+use mathlib.Core.List.{List, [], _∷_}
+use mathlib.Core.Bool.{Bool, true, false, cond, _&&_}
+use Prim.Native.Nat.{ℕ}
+use lib.Dec.{eqb}
+use lib.ListN.{take}
+use Rattle.cells.specs.Cells.{cells}
 use Rattle.cells.specs.Check.{maxImage}
-use Rattle.cells.specs.Refusals.{numbersOf}
-use Rattle.listing.specs.Text.{rewrittenText, refusedText}
-use Rattle.listing.specs.declared.Listed.{Listed}
-use Rattle.listing.specs.declared.Listed.the-variants.{Text, TooShort}
-use Rattle.passes.specs.Passes.{passAnswer, passBytes}
-use Rattle.passes.specs.declared.Pass.the-variants.{Default}
+use Rattle.crystalfold.specs.declared.rules.RuleSet.the-variants.{Default}
+use Rattle.image.specs.SiteCheck.{siteAnswer}
+use Rattle.listing.specs.Text.{rewrittenText, refusalText, checkedText}
+use Rattle.passes.specs.Contracts.{lengthWritten}
+use Rattle.passes.specs.Passes.{passAnswer, passBytes, passOutput}
+use Rattle.passes.specs.declared.Pass.{Pass}
+use Rattle.passes.specs.declared.Pass.the-variants.{Both}
 use Rattle.passes.specs.declared.Rewrite.{Rewrite}
 use Rattle.passes.specs.declared.Rewrite.the-variants.{Written, Refused}
-use Rattle.matchdesk.specs.declared.Input.{Input}
-use Rattle.matchdesk.specs.declared.Input.the-variants.{Bytes, InputFailed}
-use Rattle.matchdesk.specs.declared.Step.{Step}
-use Rattle.matchdesk.specs.declared.Step.the-variants.{Upto, End, ReadFailed}
+use Rattle.matchdesk.specs.declared.Asked.{Asked}
+use Rattle.matchdesk.specs.declared.Asked.the-variants.{For, Unknown}
+use Rattle.matchdesk.specs.declared.Job.{Job}
+use Rattle.matchdesk.specs.declared.Job.the-variants.{Rewrite as RewriteJob, Bytes, Check}
 
--- the text of the rewrite's answer and the cells that it wrote
-unfoldable pub answerText : Rewrite → List Cell → List ℕ
-answerText (Written n report) cs = rewrittenText cs (report .«num_rewrites»)
-answerText (Refused r) cs = refusedText (numbersOf r .number) (numbersOf r .position) (numbersOf r .detail)
+-- ---- the words
 
--- the program's text: the output that it lends is as long as the longest image
-unfoldable pub programText : List ℕ → List ℕ
-programText image = answerText (passAnswer Default image maxImage) (cells (passBytes Default image))
+abbrev pub sameBytes : List ℕ → List ℕ → Bool
+sameBytes [] [] = true
+sameBytes [] (y ∷ ys) = false
+sameBytes (x ∷ xs) [] = false
+sameBytes (x ∷ xs) (y ∷ ys) = eqb x y && sameBytes xs ys
 
-abbrev pub lengthOf : Listed → ℕ
-lengthOf (Text n) = n
-lengthOf TooShort = 0
+-- `rewrite`, `bytes` and `check`
+abbrev pub rewriteWord : List ℕ
+rewriteWord = 114 ∷ 101 ∷ 119 ∷ 114 ∷ 105 ∷ 116 ∷ 101 ∷ []
 
--- what a read may find behind the bytes that are kept, those past the longest image not counted: at least one byte more, within the buffer
-abbrev pub StepWithin : ℕ → ℕ → Step → Type 0
-StepWithin kept room (Upto n) = (min kept maxImage < n) × (n ≤ room)
-StepWithin kept room End = Unit {0}
-StepWithin kept room ReadFailed = Unit {0}
+abbrev pub bytesWord : List ℕ
+bytesWord = 98 ∷ 121 ∷ 116 ∷ 101 ∷ 115 ∷ []
 
--- the bytes of the input lie within the buffer
-abbrev pub Within : ℕ → Input → Type 0
-Within room (Bytes n) = n ≤ room
-Within room InputFailed = Unit {0}
+abbrev pub checkWord : List ℕ
+checkWord = 99 ∷ 104 ∷ 101 ∷ 99 ∷ 107 ∷ []
+
+unfoldable pub askedFor : List ℕ → Asked
+askedFor word =
+    cond (sameBytes word rewriteWord) (For RewriteJob)
+    (cond (sameBytes word bytesWord) (For Bytes)
+    (cond (sameBytes word checkWord) (For Check) Unknown))
+
+-- ---- the texts
+
+-- what goes to standard output and to standard error
+pub record Texts : Type 0 where
+  pub output : List ℕ
+  pub error : List ℕ
+
+abbrev pub onOutput : List ℕ → Texts
+onOutput text = record { output = text; error = [] }
+
+abbrev pub onError : List ℕ → Texts
+onError text = record { output = []; error = text }
+
+-- the text of a rewrite's answer; `new` are the bytes that it wrote
+abbrev pub answerText : Rewrite → List ℕ → List ℕ
+answerText (Written n report) new = rewrittenText (cells new) (report .«num_rewrites»)
+answerText (Refused x) new = refusalText x
+
+-- those bytes themselves; a refusal goes to standard error
+abbrev pub answerBytes : Rewrite → List ℕ → Texts
+answerBytes (Written n report) new = onOutput new
+answerBytes (Refused x) new = onError (refusalText x)
+
+-- the bytes that a rewrite wrote, by its answer and what its output then holds
+abbrev pub written : Rewrite → List ℕ → List ℕ
+written r out = take (lengthWritten r) out
+
+-- the whole rewrite by the Rust's rules, with an output as long as the longest image
+abbrev pub whole : Pass
+whole = Both Default
+
+-- what each job writes for an image
+unfoldable pub programTexts : Job → List ℕ → Texts
+programTexts RewriteJob image = onOutput (answerText (passAnswer whole image maxImage) (passBytes whole image))
+programTexts Bytes image = answerBytes (passAnswer whole image maxImage) (passBytes whole image)
+programTexts Check image = onOutput (checkedText (siteAnswer image))
+
+-- what a job leaves in the output that it lends to a rewrite
+unfoldable pub workAfter : Job → List ℕ → List ℕ → List ℕ
+workAfter RewriteJob image before = passOutput whole image before
+workAfter Bytes image before = passOutput whole image before
+workAfter Check image before = before

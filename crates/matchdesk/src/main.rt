@@ -1,67 +1,174 @@
-// The printing program: reads an image on standard input, runs the whole rewrite, and writes the text of its answer.
+// The program: reads an image on standard input, does the job that its argument names, and writes what the job says.
+mod input;
+
 ghost use mathlib.Core.Path.{_≡_};
-ghost use Prim.Native.Nat.{_≤_, _<_, min};
-ghost use lib.ListN.{length};
+ghost use Prim.Native.Nat.{_≤_};
+ghost use lib.ListN.{length, replicate};
+ghost use Rattle.cells.specs.Check.{maxImage};
 ghost use Rattle.io.specs.Counts.{Counts};
-ghost use Rattle.listing.specs.Contracts.{Written};
-ghost use Rattle.matchdesk.specs.Program.{programText, lengthOf, StepWithin, Within};
-use cells::refusal::numbers_of;
-use libc::STDIN_FILENO;
+ghost use Rattle.listing.specs.Contracts.{TextWritten};
+ghost use Rattle.listing.specs.Text.{checkedText};
+ghost use Rattle.matchdesk.specs.Program.{askedFor, written, answerText, answerBytes, programTexts, workAfter};
+ghost use Rattle.matchdesk.specs.Contracts.{lengthOf, Room, Fits, Says};
+use cells::check::MAX_IMAGE;
+use cells::read::CELL;
+use cells::refusal::Checked;
+use input::Input;
+use libc::STDERR_FILENO;
 use libc::STDOUT_FILENO;
 use listing::Listed;
 use passes::Rewrite;
 
-// What standard input held: so many bytes, which stand at the start of the buffer.
-enum Input {
-    Bytes(usize),
-    InputFailed,
+// What the program can do: the text of the rewrite's answer, the rewritten image itself, the site check.
+enum Job {
+    Rewrite,
+    Bytes,
+    Check,
 }
 
-// What one read found: bytes up to a position, or the input's end.
-enum Step {
-    Upto(usize),
-    End,
-    ReadFailed,
+// What an argument asks for.
+enum Asked {
+    For(Job),
+    Unknown,
 }
 
-// Bytes of the longest image.
-const MAX_IMAGE: usize = 65536;
+// What a job says: so many bytes at the start of the buffer for standard output, and of the one for standard error.
+struct Said {
+    output: usize,
+    error: usize,
+}
 
 // Bytes for the input: the longest image, and what one read finds past it.
-const INPUT: usize = 69632;
+const INPUT: usize = MAX_IMAGE + 4096;
 
 // Bytes of the longest text: 4,096 lines of 33, and the line of the count.
-const TEXT: usize = 135198;
+const OUTPUT: usize = 33 * (MAX_IMAGE / CELL) + 30;
+
+// Bytes of the longest line of a refusal.
+const ERROR: usize = 71;
 
 fn main() {
+    let asked = argument();
+    let Asked::For(job) = asked else {
+        io::write_all(
+            STDERR_FILENO,
+            b"usage: matchdesk [rewrite | bytes | check] < image\n",
+        );
+        return;
+    };
     let mut image = input_buffer();
-    let input = read_to_end(&mut image);
+    let input = input::read_to_end(&mut image, 0);
     let Input::Bytes(n) = input else {
         os::fail(b"standard input");
         return;
     };
-    let mut out = io::large_buffer();
-    let mut text = text_buffer();
-    let m = answer(&image[..n], &mut out, &mut text);
-    if !io::write_all(STDOUT_FILENO, &text[..m]) {
+    let mut work = work_buffer();
+    let mut output = output_buffer();
+    let mut error = error_buffer();
+    let said = run(job, &image[..n], &mut work, &mut output, &mut error);
+    let a = said.output;
+    let b = said.error;
+    if !io::write_all(STDOUT_FILENO, &output[..a]) {
         os::fail(b"standard output");
+    }
+    io::write_all(STDERR_FILENO, &error[..b]);
+}
+
+// The one argument; without any, the text of the rewrite's answer is asked for. No word is as long as the buffer.
+fn argument() -> Asked {
+    let n = os::arg_count();
+    if n < 2 {
+        return Asked::For(Job::Rewrite);
+    }
+    if 2 < n {
+        return Asked::Unknown;
+    }
+    let mut word = [0u8; 16];
+    let m = os::arg(1, &mut word);
+    job_of(&word[..m])
+}
+
+fn job_of(word: &[u8]) -> Asked
+    ensures { λ r. ⌜ r ≡ askedFor (now (word .entry)) ⌝ }
+{
+    if check::same(word, b"rewrite") {
+        return Asked::For(Job::Rewrite);
+    }
+    if check::same(word, b"bytes") {
+        return Asked::For(Job::Bytes);
+    }
+    if check::same(word, b"check") {
+        return Asked::For(Job::Check);
+    }
+    Asked::Unknown
+}
+
+// Does a job on an image. What it says stands over the start of `output` and of `error`; `work` is the output that a rewrite is lent.
+fn run(job: Job, image: &[u8], work: &mut [u8], output: &mut [u8], error: &mut [u8]) -> Said
+    requires { ⌜ Room (now work) (now output) (now error) ⌝ }
+    ensures { λ r. ⌜ Counts (r .output) (now (output .exit)) × Counts (r .error) (now (error .exit)) ⌝ }
+    ensures { λ r. ⌜ Says (programTexts job (now (image .entry))) (now (output .entry)) (now (output .exit)) (now (error .entry)) (now (error .exit)) r ⌝ }
+    ensures { λ _. ⌜ now (work .exit) ≡ workAfter job (now (image .entry)) (now (work .entry)) ⌝ }
+{
+    match job {
+        Job::Rewrite => {
+            let reply = passes::run_default_opt_passes(image, work);
+            Said {
+                output: answer_text(reply, work, output),
+                error: 0,
+            }
+        }
+        Job::Bytes => {
+            let reply = passes::run_default_opt_passes(image, work);
+            answer_bytes(reply, work, output, error)
+        }
+        Job::Check => Said {
+            output: check_line(image::site_check(image), output),
+            error: 0,
+        },
     }
 }
 
-// Runs the whole rewrite on an image, and writes the text of its answer over the start of `text`.
-fn answer(image: &[u8], out: &mut [u8], text: &mut [u8]) -> usize
-    requires { ⌜ (length (now out) ≡ 65536) × (135198 ≤ length (now text)) ⌝ }
-    ensures { λ r. ⌜ Counts r (now (text .exit)) ⌝ }
-    ensures { λ r. ⌜ Written (programText (now (image .entry))) (now (text .entry)) (now (text .exit)) r ⌝ }
+// The text of a rewrite's answer.
+fn answer_text(reply: Rewrite, work: &[u8], output: &mut [u8]) -> usize
+    requires { ⌜ Fits reply (now work) (now output) ⌝ }
+    ensures { λ r. ⌜ Counts r (now (output .exit)) ⌝ }
+    ensures { λ r. ⌜ TextWritten (answerText reply (written reply (now (work .entry)))) (now (output .entry)) (now (output .exit)) r ⌝ }
 {
-    let reply = passes::run_default_opt_passes(image, out);
     match reply {
         Rewrite::Written(n, report) => {
             let rewrites = report.num_rewrites;
-            length_of(listing::list_rewritten(&out[..n], rewrites, text))
+            length_of(listing::list_rewritten(&work[..n], rewrites, output))
         }
-        Rewrite::Refused(refusal) => length_of(listing::list_refused(numbers_of(refusal), text)),
+        Rewrite::Refused(refusal) => check_line(Checked::Refused(refusal), output),
     }
+}
+
+// The bytes that a rewrite wrote, or the line of its refusal.
+fn answer_bytes(reply: Rewrite, work: &[u8], output: &mut [u8], error: &mut [u8]) -> Said
+    requires { ⌜ Fits reply (now work) (now output) × (71 ≤ length (now error)) ⌝ }
+    ensures { λ r. ⌜ Counts (r .output) (now (output .exit)) × Counts (r .error) (now (error .exit)) ⌝ }
+    ensures { λ r. ⌜ Says (answerBytes reply (written reply (now (work .entry)))) (now (output .entry)) (now (output .exit)) (now (error .entry)) (now (error .exit)) r ⌝ }
+{
+    match reply {
+        Rewrite::Written(n, _) => Said {
+            output: bytes::copy(&work[..n], output),
+            error: 0,
+        },
+        Rewrite::Refused(refusal) => Said {
+            output: 0,
+            error: check_line(Checked::Refused(refusal), error),
+        },
+    }
+}
+
+// The line of a check's answer.
+fn check_line(checked: Checked, text: &mut [u8]) -> usize
+    requires { ⌜ 71 ≤ length (now text) ⌝ }
+    ensures { λ r. ⌜ Counts r (now (text .exit)) ⌝ }
+    ensures { λ r. ⌜ TextWritten (checkedText checked) (now (text .entry)) (now (text .exit)) r ⌝ }
+{
+    length_of(listing::list_checked(checked, text))
 }
 
 fn length_of(l: Listed) -> usize
@@ -73,64 +180,26 @@ fn length_of(l: Listed) -> usize
     }
 }
 
-// Reads standard input to its end. A proved loop has to end, and nothing says that the input does: so the loop counts its turns down,
-// from a number that no run uses up.
-fn read_to_end(buffer: &mut [u8]) -> Input
-    requires { ⌜ 65536 < length (now buffer) ⌝ }
-    ensures { λ r. ⌜ Within (length (now (buffer .exit))) r ⌝ }
-{
-    let mut kept: usize = 0;
-    let mut turns = u64::MAX;
-    while 0 < turns {
-        turns -= 1;
-        let step = read_some(buffer, kept);
-        match step {
-            Step::Upto(n) => {
-                kept = n;
-            }
-            Step::End => {
-                return Input::Bytes(kept);
-            }
-            Step::ReadFailed => {
-                return Input::InputFailed;
-            }
-        }
-    }
-    Input::InputFailed
-}
-
-// One read, behind the bytes that are kept. Bytes past the longest image are read over each other: that they are there is all that the
-// rewrite has to know, since it refuses such a length whatever they are. Once the input is past that length, it stays so.
-fn read_some(buffer: &mut [u8], kept: usize) -> Step
-    requires { ⌜ 65536 < length (now buffer) ⌝ }
-    ensures { λ r. ⌜ StepWithin kept (length (now (buffer .exit))) r ⌝ }
-{
-    let from = least(kept, MAX_IMAGE);
-    let got = libc::read(STDIN_FILENO, &mut buffer[from..]);
-    if got < 0 {
-        return Step::ReadFailed;
-    }
-    let n = io::count(got, &buffer[from..]);
-    if n == 0 {
-        return Step::End;
-    }
-    Step::Upto(from + n)
-}
-
-fn least(a: usize, b: usize) -> usize
-    ensures { λ r. ⌜ r ≡ min a b ⌝ }
-{
-    if a < b { a } else { b }
-}
-
 fn input_buffer() -> [u8; INPUT]
-    ensures { λ r. ⌜ 69632 ≡ length r ⌝ }
+    ensures { λ r. ⌜ r ≡ replicate 69632 0 ⌝ }
 {
     [0; INPUT]
 }
 
-fn text_buffer() -> [u8; TEXT]
-    ensures { λ r. ⌜ 135198 ≡ length r ⌝ }
+fn work_buffer() -> [u8; MAX_IMAGE]
+    ensures { λ r. ⌜ r ≡ replicate maxImage 0 ⌝ }
 {
-    [0; TEXT]
+    [0; MAX_IMAGE]
+}
+
+fn output_buffer() -> [u8; OUTPUT]
+    ensures { λ r. ⌜ r ≡ replicate 135198 0 ⌝ }
+{
+    [0; OUTPUT]
+}
+
+fn error_buffer() -> [u8; ERROR]
+    ensures { λ r. ⌜ r ≡ replicate 71 0 ⌝ }
+{
+    [0; ERROR]
 }

@@ -5,19 +5,20 @@ use Prim.Native.Nat.{ℕ, _*_, _≤_}
 use native.Mathlib.Omega.{arith}
 use lib.ListN.{length}
 use lib.Dec.{ltb}
+use Rattle.cells.specs.Check.{maxImage}
 use Rattle.cells.specs.Cells.{cells}
 use Rattle.cells.specs.Functions.{functions}
 use Rattle.cells.specs.declared.refusal.Refusal.{Refusal}
 use Rattle.cells.specs.declared.refusal.Checked.{Checked}
 use Rattle.cells.specs.declared.refusal.Checked.the-variants.{Good, Refused as RefusedBy}
-use Rattle.image.specs.Sites.{siteAnswer}
+use Rattle.image.specs.SiteCheck.{siteAnswer}
 use Rattle.image.proofs.Good.{site-good}
 use Rattle.passes.specs.Passes.{passBytes, passCount, passCheck, answerAs, outputAs, passAnswer, passOutput, report}
 use Rattle.passes.specs.Steps.{AllWritten}
 use Rattle.passes.specs.declared.Pass.{Pass}
 use Rattle.passes.specs.declared.Rewrite.{Rewrite}
 use Rattle.passes.specs.declared.Rewrite.the-variants.{Written, Refused}
-use Rattle.passes.specs.declared.Written.{Written as Total}
+use Rattle.passes.specs.declared.Total.{Total}
 use Rattle.passes.proofs.Done.{check-good, bytes-length, bytes-shorter}
 
 module _ (p : Pass) (s before : List ℕ) {a : Checked} (e : a ≡ passCheck s (length before)) where
@@ -37,7 +38,7 @@ module _ (p : Pass) (s before : List ℕ) {a : Checked} (e : a ≡ passCheck s (
       run-length : 16 * r .cells ≡ length (passBytes p s)
       run-length = omega (arith, w .count, bytes-length p s (check-good s (length before) .0 (sym e ∙ f) .0))
 
-      pub run-short : 16 * r .cells ≤ 65536
+      pub run-short : 16 * r .cells ≤ maxImage
       run-short =
           let g = check-good s (length before) .0 (sym e ∙ f) .0 in
           omega (arith, run-length, bytes-shorter p s g, g .image .short)

@@ -7,7 +7,7 @@ use lib.ListN.{length}
 use Rattle.cells.specs.Check.{maxImage}
 use Rattle.cells.specs.declared.refusal.Checked.the-variants.{Refused}
 use Rattle.cells.specs.declared.refusal.Refusal.the-variants.{Length, OutputTooShort}
-use Rattle.image.specs.Sites.{siteAnswer}
+use Rattle.image.specs.SiteCheck.{siteAnswer}
 use Rattle.passes.specs.Passes.{passCheck}
 
 module _ (s : List ℕ) (n : ℕ) where

@@ -15,34 +15,37 @@ use Rattle.cells.specs.WellFormed.{WellFormed}
 use Rattle.cells.specs.declared.refusal.Refusal.the-variants.{Length, OutputTooShort}
 use Rattle.cells.specs.declared.refusal.Checked.{Checked}
 use Rattle.cells.specs.declared.refusal.Checked.the-variants.{Good, Refused as RefusedBy}
-use Rattle.cells.proofs.Answers.{or-left, or-right}
+use Rattle.cells.proofs.Answers.{or-left, or-right, or-both}
 use Rattle.cells.proofs.Cells.{length-flat}
 use Rattle.cells.specs.Lists.{All}
 use Rattle.cells.proofs.Over.{over-take}
 use Rattle.cleanup.proofs.CleanWellFormed.{clean-well-formed, clean-cells-fewer}
 use Rattle.cleanup.proofs.CleanupCounts.{clean-count}
 use Rattle.cleanup.proofs.CleanupPasses.{clean-function-passes}
-use Rattle.crystalfold.specs.Rules.{defaultRules}
+use Rattle.crystalfold.specs.Rules.{rulesOf}
+use Rattle.crystalfold.specs.declared.rules.RuleSet.{RuleSet}
 use Rattle.crystalfold.proofs.FoldCounts.{folds-few}
 use Rattle.crystalfold.proofs.FoldPasses.{fold-function-passes}
 use Rattle.crystalfold.proofs.FoldWellFormed.{fold-well-formed, fold-cells}
 use Rattle.rewrite.specs.AllFunctions.{sumOf}
 use Rattle.rewrite.specs.Claim.{Rewritten}
+use Rattle.rewrite.specs.Preserved.{Preserved}
 use Rattle.rewrite.specs.Rewrite.{rewriteFunction}
 use Rattle.rewrite.proofs.EachFunction.{all-each, count-each}
-use Rattle.rewrite.proofs.Records.{default-claim}
+use Rattle.rewrite.proofs.Records.{set-claim}
 use Rattle.rewrite.proofs.RewriteCounts.{rewrite-cells-fewer, rewrite-few}
+use Rattle.rewrite.proofs.RewritePreserves.{preserved}
 use Rattle.rewrite.proofs.RewritePasses.{rewrite-passes, rewrite-well-formed}
 use Rattle.sites.specs.Validators.{siteCheck}
 use Rattle.image.specs.Image.{goodLength, GoodImage}
-use Rattle.image.specs.Sites.{siteAnswer, SitesPass}
-use Rattle.image.proofs.Again.{all-full, handed, handed-formed, handed-functions, handed-shorter, sites-again}
+use Rattle.image.specs.SiteCheck.{siteAnswer, GoodSites, SitesPass}
+use Rattle.image.proofs.Again.{all-full, image-formed, handed, handed-formed, handed-functions, handed-shorter, sites-again}
 use Rattle.image.proofs.Good.{site-good}
 use Rattle.passes.specs.Passes.{passAll, countAll, passBytes, passCount, passCheck, answerAs, outputAs, passAnswer, passOutput}
 use Rattle.passes.specs.Contracts.{replyOf, isWritten, lengthWritten, Each, PassDone, RewriteDone}
 use Rattle.passes.specs.Steps.{passOne, countOne}
 use Rattle.passes.specs.declared.Pass.{Pass}
-use Rattle.passes.specs.declared.Pass.the-variants.{Cleanup, CrystalFold, Default}
+use Rattle.passes.specs.declared.Pass.the-variants.{Cleanup, CrystalFold, Both}
 use Rattle.passes.specs.declared.Rewrite.{Rewrite}
 use Rattle.passes.specs.declared.Rewrite.the-variants.{Written, Refused}
 
@@ -50,35 +53,35 @@ use Rattle.passes.specs.declared.Rewrite.the-variants.{Written, Refused}
 
 pub pass-map : (p : Pass) (fs : List Function) → passAll p fs ≡ map (passOne p) fs
 pass-map Cleanup fs = refl
-pass-map CrystalFold fs = refl
-pass-map Default fs = all-each defaultRules fs
+pass-map (CrystalFold k) fs = refl
+pass-map (Both k) fs = all-each (rulesOf k) fs
 
 pub pass-sum : (p : Pass) (fs : List Function) → countAll p fs ≡ sumOf (countOne p) fs
 pass-sum Cleanup fs = refl
-pass-sum CrystalFold fs = refl
-pass-sum Default fs = count-each defaultRules fs
+pass-sum (CrystalFold k) fs = refl
+pass-sum (Both k) fs = count-each (rulesOf k) fs
 
 pub one-formed : (p : Pass) (f : Function) → WellFormed f → WellFormed (passOne p f)
 one-formed Cleanup f w = clean-well-formed f w
-one-formed CrystalFold f w = fold-well-formed defaultRules f w
-one-formed Default f w = rewrite-well-formed defaultRules f w
+one-formed (CrystalFold k) f w = fold-well-formed (rulesOf k) f w
+one-formed (Both k) f w = rewrite-well-formed (rulesOf k) f w
 
 pub one-fewer : (p : Pass) (f : Function) → length (cellsOf (passOne p f)) ≤ length (cellsOf f)
 one-fewer Cleanup f = clean-cells-fewer f
-one-fewer CrystalFold f = omega (arith, fold-cells defaultRules f)
-one-fewer Default f = rewrite-cells-fewer defaultRules f
+one-fewer (CrystalFold k) f = omega (arith, fold-cells (rulesOf k) f)
+one-fewer (Both k) f = rewrite-cells-fewer (rulesOf k) f
 
 -- and it counts no more than the instructions
 pub one-few : (p : Pass) (f : Function) → countOne p f ≤ length (f .code)
 one-few Cleanup f = omega (arith, clean-count (f .code))
-one-few CrystalFold f = folds-few defaultRules (f .code)
-one-few Default f = rewrite-few defaultRules (f .code)
+one-few (CrystalFold k) f = folds-few (rulesOf k) (f .code)
+one-few (Both k) f = rewrite-few (rulesOf k) (f .code)
 
 one-passes : (p : Pass) (position : ℕ) (f : Function) → siteCheck position (f .code) (f .events) ≡ Good
     → siteCheck position (passOne p f .code) (passOne p f .events) ≡ Good
 one-passes Cleanup position f e = clean-function-passes position f e
-one-passes CrystalFold position f e = fold-function-passes defaultRules position f e
-one-passes Default position f e = rewrite-passes defaultRules position f e
+one-passes (CrystalFold k) position f e = fold-function-passes (rulesOf k) position f e
+one-passes (Both k) position f e = rewrite-passes (rulesOf k) position f e
 
 -- ---- the image that a pass makes of one that passes the site check
 
@@ -173,12 +176,19 @@ pass-done p s before after r e f =
     }
 
 -- each function of the whole rewrite, at its position
-each-claim : (fs : List Function) → Each (Rewritten defaultRules) fs (map (rewriteFunction defaultRules) fs)
-each-claim [] = tt
-each-claim (f ∷ fs) = (default-claim f, each-claim fs)
+each-claim : (k : RuleSet) (fs : List Function) → Each (Rewritten (rulesOf k)) fs (map (rewriteFunction (rulesOf k)) fs)
+each-claim k [] = tt
+each-claim k (f ∷ fs) = (set-claim k f, each-claim k fs)
 
-pub rewrite-done : (s before after : List ℕ) (r : Rewrite) → PassDone Default s before after r → RewriteDone s before after r
-rewrite-done s before after r d = record {
+-- of every function of an accepted image
+each-preserved : (k : RuleSet) (fs : List Function) → All WellFormed fs → All GoodSites fs → All (Preserved (rulesOf k)) fs
+each-preserved k [] w g = tt
+each-preserved k (f ∷ fs) w g =
+    (preserved (rulesOf k) f 0 (w .0) (or-both _ _ (g .0 .activation 0) (g .0 .write 0)), each-preserved k fs (w .1) (g .1))
+
+pub rewrite-done : (k : RuleSet) (s before after : List ℕ) (r : Rewrite) → PassDone (Both k) s before after r → RewriteDone k s before after r
+rewrite-done k s before after r d = record {
   done = d;
-  records = λ f. rw (d .functions-back f, all-each defaultRules (functions (cells s))) (each-claim (functions (cells s)));
+  preserved = λ f. let g = d .accepted .0 f .0 in each-preserved k (functions (cells s)) (image-formed s (g .image)) (g .sites);
+  records = λ f. rw (d .functions-back f, all-each (rulesOf k) (functions (cells s))) (each-claim k (functions (cells s)));
 }

@@ -1,4 +1,4 @@
--- What the three rewriting operations promise: s is the image, `before` and `after` are what the lent output holds at entry and at exit, and r is
+-- Promise: what the three rewriting operations promise: s is the image, `before` and `after` are what the lent output holds at entry and at exit, and r is
 -- the answer. `answer` and `bytes` say everything outright; the other fields say what follows.
 use Prim.Native.Nat.{ℕ, _≤_}
 use mathlib.Core.Path.{_≡_}
@@ -8,14 +8,17 @@ use mathlib.Core.Bool.{Bool, true, false}
 use lib.ListN.{length, take}
 use Rattle.cells.specs.Cells.{cells}
 use Rattle.cells.specs.Functions.{Function, functions}
+use Rattle.cells.specs.Lists.{All}
 use Rattle.cells.specs.Refusals.{numbersOf}
 use Rattle.cells.specs.declared.refusal.Numbers.{Numbers}
-use Rattle.crystalfold.specs.Rules.{defaultRules}
+use Rattle.crystalfold.specs.Rules.{rulesOf}
+use Rattle.crystalfold.specs.declared.rules.RuleSet.{RuleSet}
 use Rattle.rewrite.specs.Claim.{Rewritten}
-use Rattle.image.specs.Sites.{SitesPass}
+use Rattle.rewrite.specs.Preserved.{Preserved}
+use Rattle.image.specs.SiteCheck.{SitesPass}
 use Rattle.passes.specs.Passes.{passAll, passAnswer, passOutput}
 use Rattle.passes.specs.declared.Pass.{Pass}
-use Rattle.passes.specs.declared.Pass.the-variants.{Default}
+use Rattle.passes.specs.declared.Pass.the-variants.{Both}
 use Rattle.passes.specs.declared.Rewrite.{Rewrite}
 use Rattle.passes.specs.declared.Rewrite.the-variants.{Written, Refused}
 
@@ -57,7 +60,10 @@ pub record PassDone (p : Pass) (s before after : List ℕ) (r : Rewrite) : Type 
   -- the functions read back are what the pass makes of those sent
   pub functions-back : isWritten r ≡ true → functions (cells (take (lengthWritten r) after)) ≡ passAll p (functions (cells s))
 
--- the whole rewrite; each function handed back records what the one sent at its position does
-pub record RewriteDone (s before after : List ℕ) (r : Rewrite) : Type 0 where
-  pub done : PassDone Default s before after r
-  pub records : isWritten r ≡ true → Each (Rewritten defaultRules) (functions (cells s)) (functions (cells (take (lengthWritten r) after)))
+-- the whole rewrite, by the rule set k
+pub record RewriteDone (k : RuleSet) (s before after : List ℕ) (r : Rewrite) : Type 0 where
+  pub done : PassDone (Both k) s before after r
+  -- "The Rust's other errors (missing paired events, changed fingerprints) are proved never to occur": of every function sent
+  pub preserved : isWritten r ≡ true → All (Preserved (rulesOf k)) (functions (cells s))
+  -- each function handed back records what the one sent at its position does
+  pub records : isWritten r ≡ true → Each (Rewritten (rulesOf k)) (functions (cells s)) (functions (cells (take (lengthWritten r) after)))

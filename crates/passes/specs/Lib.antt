@@ -1,3 +1,4 @@
 pub mod Passes
 pub mod Contracts
 pub mod Steps
+pub mod Worked

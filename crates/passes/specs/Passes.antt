@@ -1,4 +1,4 @@
--- The three rewriting operations on an image s and a lent output (document 01, module 6 and 'Answers of the operations'): what each answers and
+-- Promise: the three rewriting operations on an image s and a lent output (document 01, module 6 and 'Answers of the operations'): what each answers and
 -- what the output then holds, by the image's bytes and by what the output held before.
 use Prim.Native.Nat.{ℕ}
 use mathlib.Core.List.{List}
@@ -12,12 +12,12 @@ use Rattle.cells.specs.declared.refusal.Refusal.{Refusal}
 use Rattle.cells.specs.declared.refusal.Refusal.the-variants.{Length, OutputTooShort}
 use Rattle.cells.specs.declared.refusal.Checked.{Checked}
 use Rattle.cells.specs.declared.refusal.Checked.the-variants.{Good, Refused as RefusedBy}
-use Rattle.crystalfold.specs.Rules.{defaultRules}
+use Rattle.crystalfold.specs.Rules.{rulesOf}
 use Rattle.rewrite.specs.AllFunctions.{cleanAll, foldAll, rewriteAll, cleanCountAll, foldsOfAll, rewriteCountAll}
 use Rattle.image.specs.Image.{goodLength}
-use Rattle.image.specs.Sites.{siteAnswer}
+use Rattle.image.specs.SiteCheck.{siteAnswer}
 use Rattle.passes.specs.declared.Pass.{Pass}
-use Rattle.passes.specs.declared.Pass.the-variants.{Cleanup, CrystalFold, Default}
+use Rattle.passes.specs.declared.Pass.the-variants.{Cleanup, CrystalFold, Both}
 use Rattle.passes.specs.declared.OptReport.{OptReport}
 use Rattle.passes.specs.declared.Rewrite.{Rewrite}
 use Rattle.passes.specs.declared.Rewrite.the-variants.{Written, Refused}
@@ -27,14 +27,14 @@ use Rattle.passes.specs.declared.Rewrite.the-variants.{Written, Refused}
 -- as the Rust's `run_default_opt_passes`: cleanup over every function, then CrystalFold over every function
 abbrev pub passAll : Pass → List Function → List Function
 passAll Cleanup fs = cleanAll fs
-passAll CrystalFold fs = foldAll defaultRules fs
-passAll Default fs = rewriteAll defaultRules fs
+passAll (CrystalFold k) fs = foldAll (rulesOf k) fs
+passAll (Both k) fs = rewriteAll (rulesOf k) fs
 
 -- the rewrites counted; "the report is the sum of both counts"
 abbrev pub countAll : Pass → List Function → ℕ
 countAll Cleanup fs = cleanCountAll fs
-countAll CrystalFold fs = foldsOfAll defaultRules fs
-countAll Default fs = rewriteCountAll defaultRules fs
+countAll (CrystalFold k) fs = foldsOfAll (rulesOf k) fs
+countAll (Both k) fs = rewriteCountAll (rulesOf k) fs
 
 -- ---- on bytes
 

@@ -1,93 +1,77 @@
 // One function of an image, rewritten to the start of an output.
 use crate::Pass;
 use cells::read::CELL;
-use cleanup::Cleaned;
-use crystalfold::arms::RuleSet;
-use image::head;
-use sites::Part;
+use cleanup::FunctionReport;
+use crystalfold::rules::RuleSet;
 ghost use mathlib.Core.Path.{_≡_};
-ghost use mathlib.Core.List.{_++_};
 ghost use Prim.Native.Nat.{_+_, _*_, _≤_};
 ghost use lib.ListN.{length, take, drop};
-ghost use Rattle.cells.specs.Cells.{cells, flat};
-ghost use Rattle.cells.specs.Functions.{functionFrom};
-ghost use Rattle.cleanup.specs.Cleanup.{cleanFunction, cleanCount};
-ghost use Rattle.crystalfold.specs.Rules.{defaultRules};
-ghost use Rattle.crystalfold.specs.CrystalFold.{foldCode, foldsOf};
+ghost use Rattle.cells.specs.Check.{maxImage};
+ghost use Rattle.cells.specs.Functions.{functionOf};
+ghost use Rattle.cleanup.specs.Output.{Holds};
 ghost use Rattle.crystalfold.specs.InPlace.{Foldable};
-ghost use Rattle.passes.specs.Steps.{Room, Holds, FoldedPart, passOne, countOne};
+ghost use Rattle.passes.specs.Steps.{Room, FoldedPart, passOne, countOne};
 
-// The function whose head is the cell at.
-pub fn rewrite_at(pass: Pass, image: &[u8], at: usize, out: &mut [u8]) -> Cleaned
-    requires { ⌜ Room (now image) at (now out) ⌝ }
-    ensures { λ r. ⌜ Holds (passOne pass (functionFrom (cells (now (image .entry))) at)) (countOne pass (functionFrom (cells (now (image .entry))) at)) (now (out .entry)) (now (out .exit)) r ⌝ }
+// By its head, its instruction cells and its event cells. One without cells stays as it is.
+pub fn rewrite(
+    pass: Pass,
+    head: &[u8],
+    code: &[u8],
+    events: &[u8],
+    out: &mut [u8],
+) -> FunctionReport
+    requires { ⌜ Room (now head) (now code) (now events) (now out) ⌝ }
+    ensures { λ r. ⌜ Holds (passOne pass (functionOf (now (head .entry)) (now (code .entry)) (now (events .entry)))) (countOne pass (functionOf (now (head .entry)) (now (code .entry)) (now (events .entry)))) (now (out .entry)) (now (out .exit)) r ⌝ }
 {
-    let code = head::count_of(image, at, Part::Code);
-    let events = head::count_of(image, at, Part::Events);
-    if code + events == 0 {
-        return copy_at(image, at, out);
+    if code.len() + events.len() < CELL {
+        return copy(head, code, events, out);
     }
-    pass_at(pass, image, at, out)
+    pass_over(pass, head, code, events, out)
 }
 
 // The same, for a function that has cells.
-fn pass_at(pass: Pass, image: &[u8], at: usize, out: &mut [u8]) -> Cleaned
-    requires { ⌜ Room (now image) at (now out) ⌝ }
-    ensures { λ r. ⌜ Holds (passOne pass (functionFrom (cells (now (image .entry))) at)) (countOne pass (functionFrom (cells (now (image .entry))) at)) (now (out .entry)) (now (out .exit)) r ⌝ }
+fn pass_over(pass: Pass, head: &[u8], code: &[u8], events: &[u8], out: &mut [u8]) -> FunctionReport
+    requires { ⌜ Room (now head) (now code) (now events) (now out) ⌝ }
+    ensures { λ r. ⌜ Holds (passOne pass (functionOf (now (head .entry)) (now (code .entry)) (now (events .entry)))) (countOne pass (functionOf (now (head .entry)) (now (code .entry)) (now (events .entry)))) (now (out .entry)) (now (out .exit)) r ⌝ }
 {
     match pass {
-        Pass::Cleanup => clean_at(image, at, out),
-        Pass::CrystalFold => {
-            let r = copy_at(image, at, out);
-            fold_written(r, out)
+        Pass::Cleanup => cleanup::cleanup_to(head, code, events, out),
+        Pass::CrystalFold(rules) => {
+            let r = copy(head, code, events, out);
+            fold_written(rules, r, out)
         }
-        Pass::Default => {
-            let r = clean_at(image, at, out);
-            fold_written(r, out)
+        Pass::Both(rules) => {
+            let r = cleanup::cleanup_to(head, code, events, out);
+            fold_written(rules, r, out)
         }
     }
 }
 
-fn clean_at(image: &[u8], at: usize, out: &mut [u8]) -> Cleaned
-    requires { ⌜ Room (now image) at (now out) ⌝ }
-    ensures { λ r. ⌜ Holds (cleanFunction (functionFrom (cells (now (image .entry))) at)) (cleanCount (functionFrom (cells (now (image .entry))) at .code)) (now (out .entry)) (now (out .exit)) r ⌝ }
-{
-    let code = head::count_of(image, at, Part::Code);
-    let events = head::count_of(image, at, Part::Events);
-    let h = CELL * at;
-    let a = h + CELL;
-    let b = a + CELL * code;
-    let e = b + CELL * events;
-    cleanup::cleanup_to(&image[h..a], &image[a..b], &image[b..e], out)
-}
-
 // The function as it is.
-fn copy_at(image: &[u8], at: usize, out: &mut [u8]) -> Cleaned
-    requires { ⌜ Room (now image) at (now out) ⌝ }
-    ensures { λ r. ⌜ Holds (functionFrom (cells (now (image .entry))) at) 0 (now (out .entry)) (now (out .exit)) r ⌝ }
+fn copy(head: &[u8], code: &[u8], events: &[u8], out: &mut [u8]) -> FunctionReport
+    requires { ⌜ Room (now head) (now code) (now events) (now out) ⌝ }
+    ensures { λ r. ⌜ Holds (functionOf (now (head .entry)) (now (code .entry)) (now (events .entry))) 0 (now (out .entry)) (now (out .exit)) r ⌝ }
 {
-    let code = head::count_of(image, at, Part::Code);
-    let events = head::count_of(image, at, Part::Events);
-    let h = CELL * at;
-    let e = h + CELL + CELL * code + CELL * events;
-    let n = e - h;
-    bytes::copy(&image[h..e], &mut out[0..n]);
-    Cleaned {
-        instructions: code,
-        events,
+    let a = CELL + code.len();
+    bytes::copy(head, out);
+    bytes::copy(code, &mut out[CELL..]);
+    bytes::copy(events, &mut out[a..]);
+    FunctionReport {
+        instructions: code.len() / CELL,
+        events: events.len() / CELL,
         rewrites: 0,
     }
 }
 
 // Folds the instruction cells of the function that stands at the start of the output.
-fn fold_written(r: Cleaned, out: &mut [u8]) -> Cleaned
-    requires { ⌜ (16 + 16 * r .instructions ≤ length (now out)) × Foldable (take (16 * r .instructions) (drop 16 (now out))) × (r .rewrites ≤ 65536) ⌝ }
-    ensures { λ t. ⌜ FoldedPart r (now (out .entry)) (now (out .exit)) t ⌝ }
+fn fold_written(rules: RuleSet, r: FunctionReport, out: &mut [u8]) -> FunctionReport
+    requires { ⌜ (16 + 16 * r .instructions ≤ length (now out)) × Foldable (take (16 * r .instructions) (drop 16 (now out))) × (r .rewrites ≤ maxImage) ⌝ }
+    ensures { λ t. ⌜ FoldedPart rules r (now (out .entry)) (now (out .exit)) t ⌝ }
 {
     let n = r.instructions;
     let e = CELL + CELL * n;
-    let folds = crystalfold::fold_constants_and_identities(&mut out[CELL..e], RuleSet::Default);
-    Cleaned {
+    let folds = crystalfold::fold_constants_and_identities(&mut out[CELL..e], rules);
+    FunctionReport {
         instructions: n,
         events: r.events,
         rewrites: r.rewrites + folds,

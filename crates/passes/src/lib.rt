@@ -6,24 +6,24 @@ use cells::check::MAX_IMAGE;
 use cells::read::CELL;
 use cells::refusal::Checked;
 use cells::refusal::Refusal;
-use image::head;
-use sites::Part;
+use cells::walk;
+use crystalfold::rules::RuleSet;
 ghost use mathlib.Core.Path.{_≡_};
 ghost use Prim.Native.Nat.{_≤_};
 ghost use lib.ListN.{length};
 ghost use Rattle.cells.specs.Cells.{cells};
 ghost use Rattle.cells.specs.Functions.{functions};
 ghost use Rattle.cells.specs.declared.refusal.Checked.the-variants.{Good};
-ghost use Rattle.image.specs.Sites.{siteAnswer};
+ghost use Rattle.image.specs.SiteCheck.{siteAnswer};
 ghost use Rattle.passes.specs.Passes.{passCheck, passAnswer, passOutput};
 ghost use Rattle.passes.specs.Contracts.{PassDone, RewriteDone};
 ghost use Rattle.passes.specs.Steps.{AllWritten};
 
-// Which passes an operation runs.
+// Which passes an operation runs, the fold with its rules: cleanup, CrystalFold, or both in this order.
 pub enum Pass {
     Cleanup,
-    CrystalFold,
-    Default,
+    CrystalFold(RuleSet),
+    Both(RuleSet),
 }
 
 // How many rewrites there were, and whether there was any.
@@ -47,16 +47,23 @@ pub fn cleanup(image: &[u8], out: &mut [u8]) -> Rewrite
 
 // CrystalFold of every function.
 pub fn crystalfold(image: &[u8], out: &mut [u8]) -> Rewrite
-    ensures { λ r. ⌜ PassDone Pass.CrystalFold (now (image .entry)) (now (out .entry)) (now (out .exit)) r ⌝ }
+    ensures { λ r. ⌜ PassDone (Pass.CrystalFold RuleSet.Default) (now (image .entry)) (now (out .entry)) (now (out .exit)) r ⌝ }
 {
-    run(Pass::CrystalFold, image, out)
+    run(Pass::CrystalFold(RuleSet::Default), image, out)
 }
 
-// The whole rewrite: cleanup of every function, then CrystalFold of every function.
+// The whole rewrite with the Rust's rules.
 pub fn run_default_opt_passes(image: &[u8], out: &mut [u8]) -> Rewrite
-    ensures { λ r. ⌜ RewriteDone (now (image .entry)) (now (out .entry)) (now (out .exit)) r ⌝ }
+    ensures { λ r. ⌜ RewriteDone RuleSet.Default (now (image .entry)) (now (out .entry)) (now (out .exit)) r ⌝ }
 {
-    run(Pass::Default, image, out)
+    rewrite_by(RuleSet::Default, image, out)
+}
+
+// The whole rewrite: cleanup of every function, then CrystalFold of every function by these rules.
+fn rewrite_by(rules: RuleSet, image: &[u8], out: &mut [u8]) -> Rewrite
+    ensures { λ r. ⌜ RewriteDone rules (now (image .entry)) (now (out .entry)) (now (out .exit)) r ⌝ }
+{
+    run(Pass::Both(rules), image, out)
 }
 
 fn run(pass: Pass, image: &[u8], out: &mut [u8]) -> Rewrite
@@ -67,9 +74,9 @@ fn run(pass: Pass, image: &[u8], out: &mut [u8]) -> Rewrite
     if let Checked::Refused(x) = checked {
         return Rewrite::Refused(x);
     }
-    let written = rewrite_functions(pass, image, out);
-    let n = written.cells;
-    let num_rewrites = written.rewrites;
+    let total = rewrite_functions(pass, image, out);
+    let n = total.cells;
+    let num_rewrites = total.rewrites;
     Rewrite::Written(
         CELL * n,
         OptReport {
@@ -96,13 +103,13 @@ fn check(image: &[u8], room: usize) -> Checked
 }
 
 // How many cells are written, and how many rewrites there were.
-pub struct Written {
+pub struct Total {
     pub cells: usize,
     pub rewrites: usize,
 }
 
 // Every function, rewritten, one after another.
-fn rewrite_functions(pass: Pass, image: &[u8], out: &mut [u8]) -> Written
+fn rewrite_functions(pass: Pass, image: &[u8], out: &mut [u8]) -> Total
     requires { ⌜ (siteAnswer (now image) ≡ Good) × (length (now image) ≤ length (now out)) ⌝ }
     ensures { λ r. ⌜ AllWritten pass (functions (cells (now (image .entry)))) (now (out .entry)) (now (out .exit)) r ⌝ }
 {
@@ -111,18 +118,27 @@ fn rewrite_functions(pass: Pass, image: &[u8], out: &mut [u8]) -> Written
     let mut to: usize = 0;
     let mut rewrites: usize = 0;
     while at < total {
-        let code = head::count_of(image, at, Part::Code);
-        let events = head::count_of(image, at, Part::Events);
+        let f = walk::function_at(image, at);
+        let h = f.head;
+        let a = f.code;
+        let b = f.events;
+        let e = f.end;
         let o = CELL * to;
-        let r = function::rewrite_at(pass, image, at, &mut out[o..]);
+        let r = function::rewrite(
+            pass,
+            &image[h..a],
+            &image[a..b],
+            &image[b..e],
+            &mut out[o..],
+        );
         let n = r.instructions;
         let m = r.events;
         let w = r.rewrites;
         to = to + 1 + n + m;
         rewrites = rewrites + w;
-        at = at + 1 + code + events;
+        at = e / CELL;
     }
-    Written {
+    Total {
         cells: to,
         rewrites,
     }

@@ -7,11 +7,9 @@ use lib.ListN.{length}
 use Rattle.cells.specs.Functions.{Function}
 use Rattle.cells.specs.Lists.{All}
 use Rattle.cells.specs.WellFormed.{WellFormed}
-use Rattle.cells.specs.Answers.{orElse}
-use Rattle.cells.specs.declared.refusal.Checked.{Checked}
-use Rattle.cells.specs.declared.refusal.Checked.the-variants.{Good, Refused}
-use Rattle.sites.specs.AllSites.{sitesAnswer, passAnswer}
-use Rattle.sites.proofs.EachPasses.{each-passes, pass-order}
+use Rattle.cells.specs.declared.refusal.Checked.the-variants.{Good}
+use Rattle.sites.specs.AllSites.{sitesAnswer}
+use Rattle.sites.proofs.EachPasses.{each-passes}
 use Rattle.cleanup.specs.Cleanup.{cleanFunction}
 use Rattle.cleanup.proofs.CleanupPasses.{clean-function-passes}
 use Rattle.crystalfold.specs.Rules.{Rules}
@@ -59,13 +57,3 @@ module _ (f : Rules) where
       go : (fs : List Function) → sumOf (λ g. rewriteCount f (g .code)) fs ≤ sumOf (λ g. length (g .code)) fs
       go [] = omega arith
       go (g ∷ fs) = omega (arith, rewrite-few f (g .code), go fs)
-
-  -- the Rust validates, rewrites and validates again function by function, first in cleanup, then in CrystalFold: it refuses as the site check
-  pub rust-order : (position : ℕ) (fs : List Function) → orElse (passAnswer cleanFunction position fs) (passAnswer (foldFunction f) position (cleanAll fs)) ≡ sitesAnswer position fs
-  rust-order position fs =
-      rw (pass-order cleanFunction clean-function-passes position fs, pass-order (foldFunction f) (fold-function-passes f) position (cleanAll fs))
-      (go (sitesAnswer position fs) refl)
-    where
-      go : (a : Checked) → sitesAnswer position fs ≡ a → orElse a (sitesAnswer position (cleanAll fs)) ≡ a
-      go Good e = clean-all-passes position fs e
-      go (Refused r) e = refl

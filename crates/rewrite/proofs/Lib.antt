@@ -5,3 +5,4 @@ pub mod RewritePasses
 pub mod RewriteCounts
 pub mod EachFunction
 pub mod RewritePreserves
+pub mod RustOrder

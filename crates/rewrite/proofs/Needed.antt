@@ -12,7 +12,8 @@ use Rattle.cells.specs.View.{view}
 use Rattle.machine.specs.Values.{shown}
 use Rattle.machine.specs.Run.{ended, lastCell, State, live, record-of, exec, step, run, after}
 use Rattle.machine.specs.Records.{SameRecords}
-use Rattle.machine.specs.Runs.{Label, Jmp, initial, stops}
+use Rattle.machine.specs.Runs.{initial, stops}
+use Rattle.cells.specs.Assembler.{Label, Jmp}
 use Rattle.cleanup.specs.Cleanup.{cleanCode}
 use Rattle.cleanup.specs.Premise.{OnePlace}
 use Rattle.crystalfold.specs.Rules.{defaultRules}

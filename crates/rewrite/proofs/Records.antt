@@ -1,4 +1,4 @@
--- The records theorem: cleanup and CrystalFold together, under the premise, for any sound rules and for the default ones.
+-- The records theorem: cleanup and CrystalFold together, under the premise, for any sound rules and so for every rule set.
 use mathlib.Core.Path.{_≡_, refl}
 use mathlib.Core.List.{List, map}
 use Rattle.cells.specs.Cells.{Cell}
@@ -9,9 +9,11 @@ use Rattle.machine.proofs.Growth.{same-trans}
 use Rattle.cleanup.specs.Cleanup.{cleanCode, cleanFunction}
 use Rattle.cleanup.specs.Premise.{OnePlace}
 use Rattle.cleanup.proofs.CleanupRecords.{cleanup-records}
-use Rattle.crystalfold.specs.Rules.{Rules, Sound, defaultRules}
+use Rattle.crystalfold.specs.Rules.{Rules, Sound, rulesOf}
+use Rattle.crystalfold.specs.declared.rules.RuleSet.{RuleSet}
 use Rattle.crystalfold.specs.CrystalFold.{foldCode, foldFunction}
-use Rattle.crystalfold.proofs.FoldRecords.{fold-records, default-sound}
+use Rattle.crystalfold.proofs.FoldRecords.{fold-records}
+use Rattle.crystalfold.proofs.Soundness.{sound}
 use Rattle.rewrite.specs.Rewrite.{rewriteFunction, rewriteCode}
 use Rattle.rewrite.specs.Claim.{Rewritten}
 
@@ -21,9 +23,6 @@ rewrite-records f sound cs o =
     same-trans (map view cs) (map view (cleanCode cs)) (map view (foldCode f (cleanCode cs)))
     (cleanup-records cs o) (fold-records f sound (cleanCode cs))
 
-pub default-records : (cs : List Cell) → OnePlace (map view cs) → SameRecords (map view cs) (map view (rewriteCode defaultRules cs))
-default-records = rewrite-records defaultRules default-sound
-
 -- the claim, of a function
 pub rewrite-claim : (f : Rules) → Sound f → (g : Function) → Rewritten f g (rewriteFunction f g)
 unfolding rewriteFunction rewriteCode cleanFunction foldFunction
@@ -32,5 +31,6 @@ rewrite-claim f sound g = record {
   records = rewrite-records f sound (g .code);
 }
 
-pub default-claim : (g : Function) → Rewritten defaultRules g (rewriteFunction defaultRules g)
-default-claim = rewrite-claim defaultRules default-sound
+-- and of every rule set
+pub set-claim : (k : RuleSet) (g : Function) → Rewritten (rulesOf k) g (rewriteFunction (rulesOf k) g)
+set-claim k = rewrite-claim (rulesOf k) (sound k)

@@ -12,7 +12,7 @@ use Rattle.sites.specs.Sites.{siteOf, times}
 use Rattle.sites.specs.Validators.{siteCheck}
 use Rattle.sites.specs.declared.Which.{Which}
 use Rattle.cleanup.specs.Cleanup.{cleanCode, cleanEvents, cleanFunction}
-use Rattle.cleanup.specs.KeptEvents.{keptEvent}
+use Rattle.cleanup.proofs.KeptEvents.{keptEvent}
 use Rattle.cleanup.proofs.CleanupPasses.{clean-function-passes}
 use Rattle.cleanup.proofs.CleanWellFormed.{clean-well-formed}
 use Rattle.cleanup.proofs.EventsKept.{keeps-alike, sites-fewer}

@@ -1,4 +1,4 @@
--- The rewrite of an image's functions as `run_default_opt_passes` does it: cleanup over every function, then CrystalFold over every function.
+-- Promise: the rewrite of an image's functions as `run_default_opt_passes` does it: cleanup over every function, then CrystalFold over every function.
 use mathlib.Core.List.{List, [], _∷_, map}
 use Prim.Native.Nat.{ℕ, _+_}
 use Rattle.cells.specs.Functions.{Function}

@@ -1,4 +1,4 @@
--- Document 01's starred cases ('Cells on either edge') and its printed example, through the whole rewrite with the default rules: one table, and
+-- Worked: Document 01's starred cases ('Cells on either edge') and its printed example, through the whole rewrite with the default rules: one table, and
 -- one theorem of all its rows.
 use mathlib.Core.Path.{_≡_, refl}
 use mathlib.Core.Bool.{true, false}
@@ -16,23 +16,22 @@ use Rattle.cells.specs.Cells.{Cell}
 use Rattle.cells.specs.Ins.{Const, quad, bool, f64, i32, u32, fx}
 use Rattle.cells.specs.Table.{rows, classOf}
 use Rattle.cells.specs.View.{view, loadCell}
-use Rattle.machine.specs.Compute.{meanings, meaning, compute}
-use Rattle.machine.specs.Runs.{Label, Jmp, Ret, LoadBool, LoadI32, LoadU32, binary, AddI32}
+use Rattle.cells.specs.Assembler.{Label, Jmp, Ret, LoadBool, LoadI32, LoadU32, binary, AddI32}
 use Rattle.cleanup.specs.Cleanup.{cleanCode, cleanCount}
-use Rattle.cleanup.specs.Cases.{Case, case}
-use Rattle.crystalfold.specs.Rules.{defaultRules}
+use Rattle.cleanup.specs.Cases.{FunctionCase, case}
+use Rattle.crystalfold.specs.Rules.{defaultTable, defaultRules}
 use Rattle.crystalfold.specs.Fold.{note}
 use Rattle.crystalfold.specs.CrystalFold.{foldCode, foldsOf}
 use Rattle.rewrite.specs.Rewrite.{rewriteCode, rewriteCount}
 
 -- a command at constants in r1 and r2, for r3: it is folded into the load of its result, or stays
-abbrev pub folds : ℕ → Const → Const → Const → Case
+abbrev pub folds : ℕ → Const → Const → Const → FunctionCase
 folds o a b v = case (loadCell 1 a ∷ loadCell 2 b ∷ binary o 3 1 2 ∷ []) (loadCell 1 a ∷ loadCell 2 b ∷ loadCell 3 v ∷ []) 1
 
-abbrev pub remains : ℕ → Const → Const → Case
+abbrev pub remains : ℕ → Const → Const → FunctionCase
 remains o a b = case (loadCell 1 a ∷ loadCell 2 b ∷ binary o 3 1 2 ∷ []) (loadCell 1 a ∷ loadCell 2 b ∷ binary o 3 1 2 ∷ []) 0
 
-abbrev pub cases : List Case
+abbrev pub cases : List FunctionCase
 cases =
     -- * I32 2,147,483,647 + 1 folds to -2,147,483,648
     folds 0x13 (i32 0x7FFFFFFF) (i32 1) (i32 0x80000000)
@@ -66,6 +65,6 @@ cases =
     ∷ []
 
 pub cases-hold :
-    map (λ (c : Case). case (c .sent) (rewriteCode defaultRules (c .sent)) (rewriteCount defaultRules (c .sent))) cases ≡ cases
-unfolding rewriteCode rewriteCount cleanCode cleanCount foldCode foldsOf defaultRules note view loadCell classOf rows quadOf compute meaning meanings wrap addI32 divI32 modI32 subU32 mulFx constEq floatOf Ieee.eq Ieee.ofBits
+    map (λ (c : FunctionCase). case (c .sent) (rewriteCode defaultRules (c .sent)) (rewriteCount defaultRules (c .sent))) cases ≡ cases
+unfolding rewriteCode rewriteCount cleanCode cleanCount foldCode foldsOf defaultRules defaultTable note view loadCell classOf rows quadOf wrap addI32 divI32 modI32 subU32 mulFx constEq floatOf Ieee.eq Ieee.ofBits
 cases-hold = refl

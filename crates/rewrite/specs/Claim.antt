@@ -1,11 +1,11 @@
--- Demand 3, the claim about one function: `Rewritten f sent back`, where `sent` is the function as sent and `back` the one handed back, at the
--- same position in the output. The delivery has it for every function of every image that the whole rewrite accepts, with the default rules.
+-- Promise: Demand 3, the claim about one function: `Rewritten f sent back`, where `sent` is the function as sent and `back` the one handed back, at the
+-- same position in the output. The delivery has it for every function of every image that the whole rewrite accepts, with the rules of its rule set.
 --
 -- What it says, and where each definition stands:
 --
 -- * The function handed back is what cleanup and then CrystalFold make of the one sent, with its head, instruction cells and event cells.
---   `cleanFunction`: cleanup/specs/Cleanup.antt. `foldFunction`: crystalfold/specs/CrystalFold.antt; the rules f are those of its fold, and the
---   Rust's are `defaultRules` (crystalfold/specs/Rules.antt).
+--   `cleanFunction`: cleanup/specs/Cleanup.antt. `foldFunction`: crystalfold/specs/CrystalFold.antt; the rules f are those of its fold, a
+--   table from command to meaning; those of the rule sets are `rulesOf`, and the Rust's `defaultRules` (crystalfold/specs/Rules.antt).
 --
 -- * Premise for the rest: in the function as sent, each label name stands at one place, that is, its Label cells follow one another with no
 --   other cell between. `OnePlace`: cleanup/specs/Premise.antt. Without it the rest is false: Label 1, Jmp 1, Label 1 loops as sent and ends as

@@ -1,4 +1,4 @@
--- What the rewrite of one function preserves (document 01, 'Site check' and 'the Rust's other errors'), beside its runs: for a function whose
+-- Promise: what the rewrite of one function preserves (document 01, 'Site check' and 'the Rust's other errors'), beside its runs: for a function whose
 -- cells pass the image check and whose sites pass both validators, and for any rules of the fold.
 use mathlib.Core.Path.{_≡_}
 use mathlib.Core.Bool.{true}
@@ -12,7 +12,7 @@ use Rattle.cells.specs.declared.refusal.Checked.the-variants.{Good}
 use Rattle.sites.specs.Sites.{siteOf, eventSite, stands}
 use Rattle.sites.specs.Validators.{siteCheck}
 use Rattle.sites.specs.declared.Which.the-variants.{Activation, Write}
-use Rattle.cleanup.specs.Passes.{removed}
+use Rattle.cleanup.specs.Sweeps.{removed}
 use Rattle.cleanup.specs.Cleanup.{cleanCode, cleanFunction}
 use Rattle.cleanup.specs.Errors.{retain, sitesRemoved, eventsRemoved}
 use Rattle.crystalfold.specs.Rules.{Rules}

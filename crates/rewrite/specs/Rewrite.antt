@@ -1,4 +1,4 @@
--- The rewrite of a function: cleanup, then CrystalFold.
+-- Promise: the rewrite of a function: cleanup, then CrystalFold.
 use Prim.Native.Nat.{ℕ, _+_}
 use mathlib.Core.List.{List}
 use Rattle.cells.specs.Cells.{Cell}

@@ -8,12 +8,12 @@ use lib.Dec.{eqb}
 use Rattle.cells.specs.Cells.{Cell}
 use Rattle.cells.specs.Lists.{one, tally}
 use Rattle.cells.proofs.Facts.{by-test, eqb-true}
-use Rattle.sites.specs.Sites.{isSite, stands, times}
-use Rattle.sites.specs.RustTests.{has, met}
+use Rattle.cells.proofs.Lists.{any-yes, tally-sum, tally-false}
+use Rattle.sites.specs.Sites.{isSite, stands, times, hasSite}
+use Rattle.sites.proofs.RustTests.{met}
 use Rattle.sites.specs.declared.Site.{Site}
 use Rattle.sites.specs.declared.Site.the-variants.{Absent, At}
 use Rattle.sites.proofs.Judged.{is-site}
-use Rattle.sites.proofs.Tally.{any-yes, tally-sum, tally-false}
 
 eqb-swap : (m n : ℕ) → eqb m n ≡ eqb n m
 eqb-swap m n = by-test (eqb m n)
@@ -35,11 +35,11 @@ module _ (f g : Cell → Site) (es : List Cell) where
   same-met c gone e Absent = refl
   same-met c gone e (At x) = rw e (omega arith)
 
-  pub counted : (gone : List Cell) → ((x : ℕ) → times f x gone ≤ 1) → ((x : ℕ) → 1 ≤ times f x gone → times g x es ≡ 1) → tally (λ e. met f gone (g e)) es ≡ tally (λ c. has (f c)) gone
-  counted [] o h = tally-sum (λ e. met f [] (g e)) (λ e. false) (λ e. false) (λ e. none-met (g e)) es ∙ rw (tally-false es)
-  counted (c ∷ gone) o h = go (f c) refl (counted gone (λ x. omega (arith, o x)) (λ x l. h x (omega arith)))
+  pub double-counted : (gone : List Cell) → ((x : ℕ) → times f x gone ≤ 1) → ((x : ℕ) → 1 ≤ times f x gone → times g x es ≡ 1) → tally (λ e. met f gone (g e)) es ≡ tally (λ c. hasSite (f c)) gone
+  double-counted [] o h = tally-sum (λ e. met f [] (g e)) (λ e. false) (λ e. false) (λ e. none-met (g e)) es ∙ rw (tally-false es)
+  double-counted (c ∷ gone) o h = go (f c) refl (double-counted gone (λ x. omega (arith, o x)) (λ x l. h x (omega arith)))
     where
-      go : (s : Site) → f c ≡ s → tally (λ e. met f gone (g e)) es ≡ tally (λ d. has (f d)) gone → tally (λ e. met f (c ∷ gone) (g e)) es ≡ one (has (f c)) + tally (λ d. has (f d)) gone
+      go : (s : Site) → f c ≡ s → tally (λ e. met f gone (g e)) es ≡ tally (λ d. hasSite (f d)) gone → tally (λ e. met f (c ∷ gone) (g e)) es ≡ one (hasSite (f c)) + tally (λ d. hasSite (f d)) gone
       go Absent e r = rw e (omega (arith, tally-sum (λ e. met f (c ∷ gone) (g e)) (λ e. false) (λ e. met f gone (g e)) (λ d. same-met c gone e (g d)) es, tally-false es))
       go (At y) e r =
           let w : one (isSite y (f c)) ≡ 1 = rw (is-site y (f c) e) in

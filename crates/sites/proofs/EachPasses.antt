@@ -3,12 +3,10 @@ use mathlib.Core.Path.{_≡_, refl}
 use mathlib.Core.List.{List, [], _∷_, map}
 use Prim.Native.Nat.{ℕ, _+_}
 use Rattle.cells.specs.Functions.{Function}
-use Rattle.cells.specs.Answers.{orElse}
-use Rattle.cells.specs.declared.refusal.Checked.{Checked}
-use Rattle.cells.specs.declared.refusal.Checked.the-variants.{Good, Refused}
+use Rattle.cells.specs.declared.refusal.Checked.the-variants.{Good}
 use Rattle.cells.proofs.Answers.{or-both}
 use Rattle.sites.specs.Validators.{siteCheck}
-use Rattle.sites.specs.AllSites.{sitesAnswer, passAnswer}
+use Rattle.sites.specs.AllSites.{sitesAnswer}
 use Rattle.sites.proofs.Judged.{both-good}
 
 module _ (h : Function → Function)
@@ -18,13 +16,3 @@ module _ (h : Function → Function)
   each-passes position (f ∷ fs) e =
       let g = both-good (siteCheck position (f .code) (f .events)) (sitesAnswer (position + 1) fs) e in
       or-both (siteCheck position (h f .code) (h f .events)) (sitesAnswer (position + 1) (map h fs)) (keeps position f (g .0)) (each-passes (position + 1) fs (g .1))
-
-  -- so checking all of them before rewriting any answers as the Rust does
-  pub pass-order : (position : ℕ) (fs : List Function) → passAnswer h position fs ≡ sitesAnswer position fs
-  pass-order position [] = refl
-  pass-order position (f ∷ fs) = go (siteCheck position (f .code) (f .events)) refl (pass-order (position + 1) fs)
-    where
-      go : (a : Checked) → siteCheck position (f .code) (f .events) ≡ a → passAnswer h (position + 1) fs ≡ sitesAnswer (position + 1) fs
-          → orElse a (orElse (siteCheck position (h f .code) (h f .events)) (passAnswer h (position + 1) fs)) ≡ orElse a (sitesAnswer (position + 1) fs)
-      go Good e r = rw (keeps position f e) r
-      go (Refused x) e r = refl

@@ -26,7 +26,7 @@ pub cond-good : (t : Bool) (r : Refusal) (b : Checked) → cond t (Refused r) b 
 cond-good true r b e = absurd (refused-good e)
 cond-good false r b e = (refl, e)
 
--- the site that a site is
+-- a site that is x, both ways
 pub site-is : (x : ℕ) (s : Site) → isSite x s ≡ true → s ≡ At x
 site-is x Absent e = absurd (true≢false (sym e))
 site-is x (At y) e = ap At (eqb-true y x e)

@@ -1,5 +1,6 @@
+pub mod RustTests
+pub mod Fit
 pub mod Loops
-pub mod Anywhere
 pub mod Judged
 pub mod Tally
 pub mod SitesFit

@@ -12,20 +12,19 @@ use Rattle.cells.specs.declared.refusal.Refusal.{Refusal}
 use Rattle.cells.specs.declared.refusal.Refusal.the-variants.{ActivationSitesDiffer}
 use Rattle.cells.specs.declared.refusal.Checked.{Checked}
 use Rattle.cells.specs.declared.refusal.Checked.the-variants.{Good, Refused}
-use Rattle.cells.proofs.Lists.{any-append}
+use Rattle.cells.proofs.Lists.{any-append, any-yes, any-no, tally-sum}
 use Rattle.cells.proofs.Facts.{by-test, eqb-true, eqb-self}
-use Rattle.sites.specs.Sites.{isWrite, siteOf, eventSite, siteBy, isSite, stands, times}
-use Rattle.sites.specs.Validators.{repeatAnswer, judgeActivation, judgeEvent, activationAnswer, judgeMet, judgeBy, ruleAnswer}
-use Rattle.sites.specs.Fit.{WritesAlone}
-use Rattle.sites.specs.RustTests.{has, met, unmet, isBorrowOf, judgeBorrow, rustActivation, storeUnmet, eventUnmet, setsDiffer, rustDiffer, writeEvents}
+use Rattle.sites.specs.Sites.{isWrite, siteOf, eventSite, siteBy, isSite, stands, times, hasSite}
+use Rattle.sites.specs.Validators.{repeatAnswer, judgeActivation, judgeEvent, activationAnswer, judgeMet, judgeBy, ruleAnswer, standing}
+use Rattle.sites.proofs.Fit.{WritesAlone}
+use Rattle.sites.proofs.RustTests.{met, unmet, isBorrowOf, judgeBorrow, rustActivation, storeUnmet, eventUnmet, setsDiffer, rustDiffer, writeEvents}
 use Rattle.sites.specs.declared.Site.{Site}
 use Rattle.sites.specs.declared.Site.the-variants.{Absent, At}
 use Rattle.sites.specs.declared.Which.the-variants.{Activation, Write}
-use Rattle.sites.specs.declared.Part.the-variants.{Code, Events}
+use Rattle.cells.specs.declared.walk.Part.the-variants.{Code, Events}
 use Rattle.sites.specs.declared.Rule.the-variants.{StoreVarClaimed, BorrowKnown, EventKind}
-use Rattle.sites.proofs.Tally.{any-yes, any-no, tally-sum}
 use Rattle.sites.proofs.SitesFit.{repeat-good, activation-good, store-claimed, kind-good}
-use Rattle.sites.proofs.DoubleCounting.{counted}
+use Rattle.sites.proofs.DoubleCounting.{double-counted}
 
 -- ---- 14
 
@@ -43,34 +42,33 @@ scan-test : (judge : Cell → Checked) (t : Cell → Bool) (r : Refusal) → ((c
 scan-test judge t r u before [] = refl
 scan-test judge t r u before (c ∷ cs) = rw (u c) (by-test (t c) (λ y. rw y) (λ y. rw y (scan-test judge t r u (before ++ (c ∷ [])) cs)))
 
+module _ (position : ℕ) (f g : Cell → Site) (cs ds : List Cell) where
+  unmet-by : (s : Site) → judgeMet Activation position (λ x. times g x ds) s ≡ differs position (unmet g ds s)
+  unmet-by Absent = refl
+  unmet-by (At x) = met-by position g ds x
+
+  unmet-test : scan (λ _ c. judgeMet Activation position (λ x. times g x ds) (f c)) [] cs ≡ differs position (any (λ c. unmet g ds (f c)) cs)
+  unmet-test = scan-test (λ c. judgeMet Activation position (λ x. times g x ds) (f c)) (λ c. unmet g ds (f c)) (ActivationSitesDiffer position) (λ c. unmet-by (f c)) [] cs
+
 module _ (position : ℕ) (cs es : List Cell) where
-  store-by : (s : Site) → judgeMet position Events es s ≡ differs position (unmet (eventSite Activation) es s)
-  unfolding siteBy
-  store-by Absent = refl
-  store-by (At x) = met-by position (eventSite Activation) es x
-
-  event-by : (s : Site) → judgeMet position Code cs s ≡ differs position (unmet (siteOf Activation) cs s)
-  unfolding siteBy
-  event-by Absent = refl
-  event-by (At x) = met-by position (siteOf Activation) cs x
-
-  store-test : ruleAnswer StoreVarClaimed position es cs ≡ differs position (storeUnmet cs es)
+  store-test : ruleAnswer StoreVarClaimed position (standing Events Activation es) cs ≡ differs position (storeUnmet cs es)
   unfolding judgeBy siteBy
-  store-test = scan-test (judgeBy StoreVarClaimed position es) (λ c. unmet (eventSite Activation) es (siteOf Activation c)) (ActivationSitesDiffer position) (λ c. store-by (siteOf Activation c)) [] cs
+  store-test = unmet-test position (siteOf Activation) (eventSite Activation) cs es
 
-  event-test : ruleAnswer BorrowKnown position cs es ≡ differs position (eventUnmet cs es)
+  event-test : ruleAnswer BorrowKnown position (standing Code Activation cs) es ≡ differs position (eventUnmet cs es)
   unfolding judgeBy siteBy
-  event-test = scan-test (judgeBy BorrowKnown position cs) (λ e. unmet (siteOf Activation) cs (eventSite Activation e)) (ActivationSitesDiffer position) (λ c. event-by (eventSite Activation c)) [] es
+  event-test = unmet-test position (eventSite Activation) (siteOf Activation) es cs
 
 -- the two scans answer whether the sets differ
-pub sets-answer : (position : ℕ) (cs es : List Cell) → orElse (ruleAnswer StoreVarClaimed position es cs) (ruleAnswer BorrowKnown position cs es) ≡ differs position (setsDiffer cs es)
+pub sets-answer : (position : ℕ) (cs es : List Cell) → orElse (ruleAnswer StoreVarClaimed position (standing Events Activation es) cs) (ruleAnswer BorrowKnown position (standing Code Activation cs) es) ≡ differs position (setsDiffer cs es)
 sets-answer position cs es = rw (store-test position cs es, event-test position cs es) (by-test (storeUnmet cs es) (λ y. rw y) (λ y. rw y))
 
-has-met : (f : Cell → Site) (cs : List Cell) (s : Site) → one (has s) ≡ one (met f cs s) + one (unmet f cs s)
+has-met : (f : Cell → Site) (cs : List Cell) (s : Site) → one (hasSite s) ≡ one (met f cs s) + one (unmet f cs s)
 has-met f cs Absent = refl
 has-met f cs (At x) = by-test (stands f x cs) (λ y. rw y) (λ y. rw y)
 
 rust-differ : (cs es : List Cell) → ((x : ℕ) → times (siteOf Activation) x cs ≤ 1) → ((x : ℕ) → times (eventSite Activation) x es ≤ 1) → rustDiffer cs es ≡ setsDiffer cs es
+unfolding siteBy
 rust-differ cs es o p = by-test (storeUnmet cs es)
     (λ y. rw (y, or-true))
     (λ y. rw y (sizes y))
@@ -80,16 +78,19 @@ rust-differ cs es o p = by-test (storeUnmet cs es)
     or-none false = refl
 
     stores : ℕ
-    stores = tally (λ c. has (siteOf Activation c)) cs
+    stores = tally (λ c. hasSite (siteOf Activation c)) cs
 
     events : ℕ
-    events = tally (λ e. has (eventSite Activation e)) es
+    events = tally (λ e. hasSite (eventSite Activation e)) es
+
+    claimed : storeUnmet cs es ≡ false → (x : ℕ) → 1 ≤ times (siteOf Activation) x cs → 1 ≤ times (eventSite Activation) x es
+    claimed y = store-claimed 0 (standing Events Activation es) cs .0 (store-test 0 cs es ∙ rw y)
 
     sizes : storeUnmet cs es ≡ false → (not (eqb stores events) || false) ≡ eventUnmet cs es
     sizes y =
-        let m = store-claimed 0 cs es .0 (store-test 0 cs es ∙ rw y) in
-        let n = counted (siteOf Activation) (eventSite Activation) es cs o (λ x l. omega (arith, p x, m x l)) in
-        let k = tally-sum (λ e. has (eventSite Activation e)) (λ e. met (siteOf Activation) cs (eventSite Activation e)) (λ e. unmet (siteOf Activation) cs (eventSite Activation e)) (λ e. has-met (siteOf Activation) cs (eventSite Activation e)) es in
+        let m = claimed y in
+        let n = double-counted (siteOf Activation) (eventSite Activation) es cs o (λ x l. omega (arith, p x, m x l)) in
+        let k = tally-sum (λ e. hasSite (eventSite Activation e)) (λ e. met (siteOf Activation) cs (eventSite Activation e)) (λ e. unmet (siteOf Activation) cs (eventSite Activation e)) (λ e. has-met (siteOf Activation) cs (eventSite Activation e)) es in
         rw or-none (by-test (eventUnmet cs es)
         (λ v. rw v (differ stores events (omega (arith, any-yes (λ e. unmet (siteOf Activation) cs (eventSite Activation e)) es v))))
         (λ v. rw v (agree stores events (omega (arith, any-no (λ e. unmet (siteOf Activation) cs (eventSite Activation e)) es v)))))
@@ -102,7 +103,7 @@ rust-differ cs es o p = by-test (storeUnmet cs es)
 
 -- once 11 to 13 have passed
 pub rust-14 : (position : ℕ) (cs es : List Cell) → repeatAnswer Activation position cs ≡ Good → activationAnswer position es ≡ Good
-    → orElse (ruleAnswer StoreVarClaimed position es cs) (ruleAnswer BorrowKnown position cs es) ≡ differs position (rustDiffer cs es)
+    → orElse (ruleAnswer StoreVarClaimed position (standing Events Activation es) cs) (ruleAnswer BorrowKnown position (standing Code Activation cs) es) ≡ differs position (rustDiffer cs es)
 rust-14 position cs es g h =
     sets-answer position cs es ∙ ap (differs position) (sym (rust-differ cs es (repeat-good Activation position cs .0 g) (activation-good position es .0 h .1)))
 
@@ -138,8 +139,8 @@ rust-13 position es = same-13 position [] es (λ x. refl)
 -- ---- 24 to 26
 
 -- once 22 has passed, every event with a write site is a Write event
-pub rust-counts : (position : ℕ) (cs es : List Cell) → ruleAnswer EventKind position cs es ≡ Good → (x : ℕ) → writeEvents x es ≡ times (eventSite Write) x es
-rust-counts position cs es g x = go es (kind-good position cs es .0 g .0)
+pub rust-counts : (position : ℕ) (count : ℕ → ℕ) (es : List Cell) → ruleAnswer EventKind position count es ≡ Good → (x : ℕ) → writeEvents x es ≡ times (eventSite Write) x es
+rust-counts position count es g x = go es (kind-good position count es .0 g .0)
   where
     go : (es : List Cell) → All WritesAlone es → writeEvents x es ≡ times (eventSite Write) x es
     go [] a = refl

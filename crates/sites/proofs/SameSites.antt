@@ -7,12 +7,12 @@ use Rattle.cells.specs.Cells.{Cell}
 use Rattle.cells.specs.Lists.{tally, only}
 use Rattle.cells.specs.declared.refusal.Checked.the-variants.{Good}
 use Rattle.cells.proofs.Facts.{by-test}
-use Rattle.sites.specs.Sites.{isStoreVar, isMakeRecord, siteOf, isSite, times}
+use Rattle.cells.proofs.Lists.{all-of, tally-only}
+use Rattle.sites.specs.Sites.{isStoreVar, isMakeRecord, siteOf, isSite, times, writeCapable}
 use Rattle.sites.specs.Validators.{validateActivationSites, validateWriteSites, siteCheck}
-use Rattle.sites.specs.Fit.{writeCapable, storeSite, Paired, Claimed}
+use Rattle.sites.proofs.Fit.{storeSite, Paired, Claimed}
 use Rattle.sites.specs.declared.Which.{Which}
 use Rattle.sites.specs.declared.Which.the-variants.{Activation, Write}
-use Rattle.sites.proofs.Tally.{all-of, tally-only}
 use Rattle.sites.proofs.SitesFit.{activation-sites, write-sites, site-check}
 
 -- a test that only such cells pass

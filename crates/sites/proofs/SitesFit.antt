@@ -9,24 +9,23 @@ use lib.Dec.{eqb}
 use Rattle.cells.specs.Answers.{orElse, scan}
 use Rattle.cells.specs.Cells.{Cell}
 use Rattle.cells.specs.Lists.{one, All}
-use Rattle.cells.specs.declared.refusal.Refusal.the-variants.{ActivationSiteOnWrite, ActivationSiteClaimedTwice, ActivationSitesDiffer, WriteWithoutSite, WriteSiteUnclaimed, StoreVarSiteClaimedTwice, WriteSiteUnknown}
+use Rattle.cells.specs.declared.refusal.Refusal.the-variants.{ActivationSiteOnWrite, ActivationSiteClaimedTwice, WriteWithoutSite, WriteSiteUnclaimed, StoreVarSiteClaimedTwice}
 use Rattle.cells.specs.declared.refusal.Checked.{Checked}
 use Rattle.cells.specs.declared.refusal.Checked.the-variants.{Good, Refused}
-use Rattle.cells.proofs.Lists.{all-each, tally-append}
+use Rattle.cells.proofs.Lists.{all-of, all-both, any-no, no-any, tally-append}
 use Rattle.cells.proofs.Answers.{refused-good, or-both}
 use Rattle.cells.proofs.Facts.{by-test, clash, eqb-true, eqb-false, not-false}
 use Rattle.sites.specs.Sites.{isStoreVar, isWrite, siteOf, eventSite, siteBy, isSite, stands, times}
-use Rattle.sites.specs.Validators.{repeated, judgeSite, judgeCommand, repeatAnswer, judgeActivation, judgeEvent, activationAnswer, judgeMet, judgeKind, judgeClaim, judgeKnown, judgeBy, ruleAnswer, validateActivationSites, validateWriteSites, siteCheck}
-use Rattle.sites.specs.Fit.{storeSite, There, BorrowsAlone, WritesAlone, WriteSited, Paired, Claimed}
+use Rattle.sites.specs.Validators.{repeated, judgeSite, judgeCommand, repeatAnswer, judgeActivation, judgeEvent, activationAnswer, unmatched, judgeMet, judgeKind, judgeClaim, judgeBy, ruleAnswer, standing, validateActivationSites, validateWriteSites, siteCheck}
+use Rattle.sites.proofs.Fit.{storeSite, There, BorrowsAlone, WritesAlone, WriteSited, Paired, Claimed}
 use Rattle.sites.specs.declared.Site.{Site}
 use Rattle.sites.specs.declared.Site.the-variants.{Absent, At}
 use Rattle.sites.specs.declared.Which.{Which}
 use Rattle.sites.specs.declared.Which.the-variants.{Activation, Write}
-use Rattle.sites.specs.declared.Part.{Part}
-use Rattle.sites.specs.declared.Part.the-variants.{Code, Events}
+use Rattle.cells.specs.declared.walk.Part.the-variants.{Code, Events}
 use Rattle.sites.specs.declared.Rule.the-variants.{StoreVarClaimed, BorrowKnown, EventKind, WriteClaimed, WriteKnown}
 use Rattle.sites.proofs.Judged.{both-good, cond-good, site-is, is-site, not-absent}
-use Rattle.sites.proofs.Tally.{all-of, all-two, any-no, no-any, from-all, to-all}
+use Rattle.sites.proofs.Tally.{from-all, to-all}
 
 -- a site that stands on no earlier cell
 abbrev Fresh : (Cell → Site) → List Cell → Site → Type 0
@@ -59,16 +58,16 @@ module _ (f : Cell → Site) (Own : Cell → Type 0) (judge : List Cell → Cell
       fresh x e = no-any (λ d. isSite x (f d)) before (let n = tally-append (λ d. isSite x (f d)) before (c ∷ cs) in let k = h x in let o : one (isSite x (f c)) ≡ 1 = rw (is-site x (f c) e) in omega arith)
 
 -- a scan whose cells are each judged by themselves
-module _ (judge : Cell → Checked) where
-  pub scan-all : (before cs : List Cell) → scan (λ _ c. judge c) before cs ≡ Good → All (λ c. judge c ≡ Good) cs
+module _ (judge : Cell → Checked) (Own : Cell → Type 0) (passes : (c : Cell) → (judge c ≡ Good) ↔ Own c) where
+  scan-all : (before cs : List Cell) → scan (λ _ c. judge c) before cs ≡ Good → All Own cs
   scan-all before [] e = tt
   scan-all before (c ∷ cs) e =
       let g = both-good (judge c) (scan (λ _ d. judge d) (before ++ (c ∷ [])) cs) e in
-      (g .0, scan-all (before ++ (c ∷ [])) cs (g .1))
+      (passes c .0 (g .0), scan-all (before ++ (c ∷ [])) cs (g .1))
 
-  pub all-scan : (before cs : List Cell) → All (λ c. judge c ≡ Good) cs → scan (λ _ c. judge c) before cs ≡ Good
+  all-scan : (before cs : List Cell) → All Own cs → scan (λ _ c. judge c) before cs ≡ Good
   all-scan before [] a = refl
-  all-scan before (c ∷ cs) a = or-both (judge c) (scan (λ _ d. judge d) (before ++ (c ∷ [])) cs) (a .0) (all-scan (before ++ (c ∷ [])) cs (a .1))
+  all-scan before (c ∷ cs) a = or-both (judge c) (scan (λ _ d. judge d) (before ++ (c ∷ [])) cs) (passes c .1 (a .0)) (all-scan (before ++ (c ∷ [])) cs (a .1))
 
 -- 11 and 21
 repeat-passes : (w : Which) (position : ℕ) (before : List Cell) (s : Site) → (judgeSite w position before s ≡ Good) ↔ (Unit {0} × Fresh (siteOf w) before s)
@@ -101,14 +100,6 @@ activation-good position es = (
   λ h. once-scan (eventSite Activation) BorrowsAlone (judgeEvent position) (λ before c. activation-passes position before (isWrite c) (eventSite Activation c)) [] es (h .0) (h .1),
 )
 
--- what a rule judges of each cell, as a fact of its site
-module _ (f g : Cell → Site) (judge : Cell → Checked) (cs ds : List Cell) (passes : (c : Cell) → (judge c ≡ Good) ↔ ((x : ℕ) → f c ≡ At x → 1 ≤ times g x ds)) where
-  pub met-scan : (scan (λ _ c. judge c) [] cs ≡ Good) ↔ ((x : ℕ) → 1 ≤ times f x cs → 1 ≤ times g x ds)
-  met-scan = (
-    λ e x. from-all f x (1 ≤ times g x ds) cs (all-each (λ c. judge c ≡ Good) (λ c. f c ≡ At x → 1 ≤ times g x ds) (λ c y. passes c .0 y x) cs (scan-all judge [] cs e)),
-    λ h. all-scan judge [] cs (all-each (λ c. (x : ℕ) → f c ≡ At x → 1 ≤ times g x ds) (λ c. judge c ≡ Good) (λ c y. passes c .1 y) cs (to-all f (λ x. 1 ≤ times g x ds) cs h)),
-  )
-
 -- a count that is not zero
 some-of : (k : ℕ) → eqb k 0 ≡ false → 1 ≤ k
 some-of k e = omega (arith, eqb-false k 0 e)
@@ -116,65 +107,68 @@ some-of k e = omega (arith, eqb-false k 0 e)
 of-some : (k : ℕ) → 1 ≤ k → eqb k 0 ≡ false
 of-some k l = by-test (eqb k 0) (λ y. absurd (omega (arith, eqb-true k 0 y))) (λ y. y)
 
--- 14: the commands' sites, and the events'
-met-passes : (position : ℕ) (p : Part) (ds : List Cell) (s : Site) → (judgeMet position p ds s ≡ Good) ↔ ((x : ℕ) → s ≡ At x → 1 ≤ times (siteBy p Activation) x ds)
-met-passes position p ds Absent = (λ e x y. not-absent x Absent refl y, λ u. refl)
-met-passes position p ds (At x) = (
-  λ e z y. let k : x ≡ z = cc in rw (← k) (some-of (times (siteBy p Activation) x ds) (cond-good (eqb (times (siteBy p Activation) x ds) 0) (ActivationSitesDiffer position) Good e .0)),
-  λ u. rw (of-some (times (siteBy p Activation) x ds) (u x refl)),
-)
+module _ (position : ℕ) (count : ℕ → ℕ) where
+  -- 14 and 26
+  met-passes : (w : Which) (s : Site) → (judgeMet w position count s ≡ Good) ↔ ((x : ℕ) → s ≡ At x → 1 ≤ count x)
+  met-passes w Absent = (λ e x y. not-absent x Absent refl y, λ u. refl)
+  met-passes w (At x) = (
+    λ e z y. let k : x ≡ z = cc in rw (← k) (some-of (count x) (cond-good (eqb (count x) 0) (unmatched w position x) Good e .0)),
+    λ u. rw (of-some (count x) (u x refl)),
+  )
 
-pub store-claimed : (position : ℕ) (cs es : List Cell) → (ruleAnswer StoreVarClaimed position es cs ≡ Good) ↔ ((x : ℕ) → 1 ≤ times (siteOf Activation) x cs → 1 ≤ times (eventSite Activation) x es)
-unfolding judgeBy siteBy
-store-claimed position cs es = met-scan (siteOf Activation) (eventSite Activation) (judgeBy StoreVarClaimed position es) cs es (λ c. met-passes position Events es (siteOf Activation c))
+  met-scan : (w : Which) (f : Cell → Site) (cs : List Cell) → (scan (λ _ c. judgeMet w position count (f c)) [] cs ≡ Good) ↔ ((x : ℕ) → 1 ≤ times f x cs → 1 ≤ count x)
+  met-scan w f cs =
+      let own : Cell → Type 0 = λ c. (x : ℕ) → f c ≡ At x → 1 ≤ count x in (
+        λ e. from-all f (λ x. 1 ≤ count x) cs (scan-all (λ c. judgeMet w position count (f c)) own (λ c. met-passes w (f c)) [] cs e),
+        λ h. all-scan (λ c. judgeMet w position count (f c)) own (λ c. met-passes w (f c)) [] cs (to-all f (λ x. 1 ≤ count x) cs h),
+      )
 
-pub borrow-known : (position : ℕ) (cs es : List Cell) → (ruleAnswer BorrowKnown position cs es ≡ Good) ↔ ((x : ℕ) → 1 ≤ times (eventSite Activation) x es → 1 ≤ times (siteOf Activation) x cs)
-unfolding judgeBy siteBy
-borrow-known position cs es = met-scan (eventSite Activation) (siteOf Activation) (judgeBy BorrowKnown position cs) es cs (λ c. met-passes position Code cs (eventSite Activation c))
+  pub store-claimed : (cs : List Cell) → (ruleAnswer StoreVarClaimed position count cs ≡ Good) ↔ ((x : ℕ) → 1 ≤ times (siteOf Activation) x cs → 1 ≤ count x)
+  unfolding judgeBy siteBy
+  store-claimed cs = met-scan Activation (siteOf Activation) cs
 
--- 22 and 23
-kind-passes : (position : ℕ) (write : Bool) (s : Site) → (judgeKind position write s ≡ Good) ↔ ((write ≡ false → s ≡ Absent) × (write ≡ true → There s))
-kind-passes position write Absent = (
-  λ e. (λ y. refl, λ y. clash write y (cond-good write (WriteWithoutSite position) Good e .0)),
-  λ u. by-test write (λ y. let t = u .1 y in not-absent (t .0) Absent refl (t .1)) (λ y. rw y),
-)
-kind-passes position write (At x) = (
-  λ e. (λ y. absurd (refused-good (rw y at e)), λ y. (x, refl)),
-  λ u. by-test write (λ y. rw y) (λ y. not-absent x (At x) (u .0 y) refl),
-)
+  borrow-known : (es : List Cell) → (ruleAnswer BorrowKnown position count es ≡ Good) ↔ ((x : ℕ) → 1 ≤ times (eventSite Activation) x es → 1 ≤ count x)
+  unfolding judgeBy siteBy
+  borrow-known es = met-scan Activation (eventSite Activation) es
 
-pub kind-good : (position : ℕ) (cs es : List Cell) → (ruleAnswer EventKind position cs es ≡ Good) ↔ (All WritesAlone es × All WriteSited es)
-unfolding judgeBy siteBy
-kind-good position cs es = (
-  λ e. let a = scan-all judged [] es e in (
-    all-each (λ c. judged c ≡ Good) WritesAlone (λ c y. kind-passes position (isWrite c) (eventSite Write c) .0 y .0) es a,
-    all-each (λ c. judged c ≡ Good) WriteSited (λ c y. kind-passes position (isWrite c) (eventSite Write c) .0 y .1) es a,
-  ),
-  λ h. all-scan judged [] es (all-two WritesAlone WriteSited (λ c. judged c ≡ Good) (λ c y z. kind-passes position (isWrite c) (eventSite Write c) .1 (y, z)) es (h .0) (h .1)),
-)
-  where
-    judged : Cell → Checked
-    judged c = judgeBy EventKind position cs c
+  write-known : (es : List Cell) → (ruleAnswer WriteKnown position count es ≡ Good) ↔ ((x : ℕ) → 1 ≤ times (eventSite Write) x es → 1 ≤ count x)
+  unfolding judgeBy siteBy
+  write-known es = met-scan Write (eventSite Write) es
 
--- 24 and 25
-module _ (position : ℕ) (es : List Cell) where
-  n : ℕ → ℕ
-  n x = times (siteBy Events Write) x es
+  -- 22 and 23
+  kind-passes : (write : Bool) (s : Site) → (judgeKind position write s ≡ Good) ↔ ((write ≡ false → s ≡ Absent) × (write ≡ true → There s))
+  kind-passes write Absent = (
+    λ e. (λ y. refl, λ y. clash write y (cond-good write (WriteWithoutSite position) Good e .0)),
+    λ u. by-test write (λ y. let t = u .1 y in not-absent (t .0) Absent refl (t .1)) (λ y. rw y),
+  )
+  kind-passes write (At x) = (
+    λ e. (λ y. absurd (refused-good (rw y at e)), λ y. (x, refl)),
+    λ u. by-test write (λ y. rw y) (λ y. not-absent x (At x) (u .0 y) refl),
+  )
 
-  claim-passes : (store : Bool) (s : Site) → (judgeClaim position es store s ≡ Good) ↔ (((x : ℕ) → s ≡ At x → 1 ≤ n x) × ((x : ℕ) → cond store s Absent ≡ At x → n x ≤ 1))
-  unfolding n
+  pub kind-good : (es : List Cell) → (ruleAnswer EventKind position count es ≡ Good) ↔ (All WritesAlone es × All WriteSited es)
+  unfolding judgeBy siteBy
+  kind-good es =
+      let judged : Cell → Checked = λ c. judgeKind position (isWrite c) (eventSite Write c) in
+      let own : Cell → Type 0 = λ c. WritesAlone c × WriteSited c in (
+        λ e. all-both WritesAlone WriteSited es .0 (scan-all judged own (λ c. kind-passes (isWrite c) (eventSite Write c)) [] es e),
+        λ h. all-scan judged own (λ c. kind-passes (isWrite c) (eventSite Write c)) [] es (all-both WritesAlone WriteSited es .1 h),
+      )
+
+  -- 24 and 25
+  claim-passes : (store : Bool) (s : Site) → (judgeClaim position count store s ≡ Good) ↔ (((x : ℕ) → s ≡ At x → 1 ≤ count x) × ((x : ℕ) → cond store s Absent ≡ At x → count x ≤ 1))
   claim-passes store Absent = (λ e. (λ x y. not-absent x Absent refl y, λ x y. by-test store (λ z. not-absent x Absent refl (rw z at y)) (λ z. not-absent x Absent refl (rw z at y))), λ u. refl)
   claim-passes store (At x) = (
-    λ e. let g = cond-good (eqb (n x) 0) (WriteSiteUnclaimed position x) (cond (store && not (eqb (n x) 1)) (Refused (StoreVarSiteClaimedTwice position x)) Good) e in
-        let h = cond-good (store && not (eqb (n x) 1)) (StoreVarSiteClaimedTwice position x) Good (g .1) .0 in (
-          λ z y. let k : x ≡ z = cc in rw (← k) (some-of (n x) (g .0)),
+    λ e. let g = cond-good (eqb (count x) 0) (WriteSiteUnclaimed position x) (cond (store && not (eqb (count x) 1)) (Refused (StoreVarSiteClaimedTwice position x)) Good) e in
+        let h = cond-good (store && not (eqb (count x) 1)) (StoreVarSiteClaimedTwice position x) Good (g .1) .0 in (
+          λ z y. let k : x ≡ z = cc in rw (← k) (some-of (count x) (g .0)),
           λ z y. by-test store
-              (λ v. let k : x ≡ z = at-is x z (rw v at y) in rw (← k) (omega (arith, eqb-true (n x) 1 (not-false (eqb (n x) 1) (rw v at h)))))
+              (λ v. let k : x ≡ z = at-is x z (rw v at y) in rw (← k) (omega (arith, eqb-true (count x) 1 (not-false (eqb (count x) 1) (rw v at h)))))
               (λ v. not-absent z Absent refl (rw v at y)),
         ),
     λ u. by-test store
-        (λ v. let k : eqb (n x) 1 ≡ true = is-one (n x) (u .0 x refl) (u .1 x (rw v)) in rw (of-some (n x) (u .0 x refl), v, k))
-        (λ v. rw (of-some (n x) (u .0 x refl), v)),
+        (λ v. let k : eqb (count x) 1 ≡ true = is-one (count x) (u .0 x refl) (u .1 x (rw v)) in rw (of-some (count x) (u .0 x refl), v, k))
+        (λ v. rw (of-some (count x) (u .0 x refl), v)),
   )
     where
       is-one : (k : ℕ) → 1 ≤ k → k ≤ 1 → eqb k 1 ≡ true
@@ -183,51 +177,49 @@ module _ (position : ℕ) (es : List Cell) where
       at-is : (x z : ℕ) → At x ≡ At z → x ≡ z
       at-is x z e = cc
 
-  pub claim-good : (cs : List Cell) → (ruleAnswer WriteClaimed position es cs ≡ Good)
-      ↔ (((x : ℕ) → 1 ≤ times (siteOf Write) x cs → 1 ≤ times (eventSite Write) x es) × ((x : ℕ) → 1 ≤ times storeSite x cs → times (eventSite Write) x es ≤ 1))
-  unfolding n judgeBy siteBy
-  claim-good cs = (
-    λ e. let a = scan-all judged [] cs e in (
-      λ x. from-all (siteOf Write) x (1 ≤ n x) cs (all-each (λ c. judged c ≡ Good) (λ c. siteOf Write c ≡ At x → 1 ≤ n x) (λ c y. claim-passes (isStoreVar c) (siteOf Write c) .0 y .0 x) cs a),
-      λ x. from-all storeSite x (n x ≤ 1) cs (all-each (λ c. judged c ≡ Good) (λ c. storeSite c ≡ At x → n x ≤ 1) (λ c y. claim-passes (isStoreVar c) (siteOf Write c) .0 y .1 x) cs a),
-    ),
-    λ h. all-scan judged [] cs (all-two (λ c. (x : ℕ) → siteOf Write c ≡ At x → 1 ≤ n x) (λ c. (x : ℕ) → storeSite c ≡ At x → n x ≤ 1) (λ c. judged c ≡ Good)
-        (λ c y z. claim-passes (isStoreVar c) (siteOf Write c) .1 (y, z)) cs (to-all (siteOf Write) (λ x. 1 ≤ n x) cs (h .0)) (to-all storeSite (λ x. n x ≤ 1) cs (h .1))),
-  )
-    where
-      judged : Cell → Checked
-      judged c = judgeBy WriteClaimed position es c
+  claim-good : (cs : List Cell) → (ruleAnswer WriteClaimed position count cs ≡ Good)
+      ↔ (((x : ℕ) → 1 ≤ times (siteOf Write) x cs → 1 ≤ count x) × ((x : ℕ) → 1 ≤ times storeSite x cs → count x ≤ 1))
+  unfolding judgeBy siteBy
+  claim-good cs =
+      let judged : Cell → Checked = λ c. judgeClaim position count (isStoreVar c) (siteOf Write c) in
+      let met : Cell → Type 0 = λ c. (x : ℕ) → siteOf Write c ≡ At x → 1 ≤ count x in
+      let alone : Cell → Type 0 = λ c. (x : ℕ) → storeSite c ≡ At x → count x ≤ 1 in (
+        λ e. let (a, b) = all-both met alone cs .0 (scan-all judged (λ c. met c × alone c) (λ c. claim-passes (isStoreVar c) (siteOf Write c)) [] cs e) in
+            (from-all (siteOf Write) (λ x. 1 ≤ count x) cs a, from-all storeSite (λ x. count x ≤ 1) cs b),
+        λ h. all-scan judged (λ c. met c × alone c) (λ c. claim-passes (isStoreVar c) (siteOf Write c)) [] cs
+            (all-both met alone cs .1 (to-all (siteOf Write) (λ x. 1 ≤ count x) cs (h .0), to-all storeSite (λ x. count x ≤ 1) cs (h .1))),
+      )
 
--- 26
-known-passes : (position : ℕ) (cs : List Cell) (s : Site) → (judgeKnown position cs s ≡ Good) ↔ ((x : ℕ) → s ≡ At x → 1 ≤ times (siteBy Code Write) x cs)
-known-passes position cs Absent = (λ e x y. not-absent x Absent refl y, λ u. refl)
-known-passes position cs (At x) = (
-  λ e z y. let k : x ≡ z = cc in rw (← k) (some-of (times (siteBy Code Write) x cs) (cond-good (eqb (times (siteBy Code Write) x cs) 0) (WriteSiteUnknown position x) Good e .0)),
-  λ u. rw (of-some (times (siteBy Code Write) x cs) (u x refl)),
+-- ---- the two validators, and both
+
+four-good : (a b c d : Checked) → (orElse a (orElse b (orElse c d)) ≡ Good) ↔ ((a ≡ Good) × (b ≡ Good) × (c ≡ Good) × (d ≡ Good))
+four-good a b c d = (
+  λ e. let (e₁, r) = both-good a (orElse b (orElse c d)) e in
+      let (e₂, r₂) = both-good b (orElse c d) r in
+      let (e₃, e₄) = both-good c d r₂ in
+      (e₁, e₂, e₃, e₄),
+  λ g. simp (g .0, g .1, g .2) (g .3),
 )
 
-pub write-known : (position : ℕ) (cs es : List Cell) → (ruleAnswer WriteKnown position cs es ≡ Good) ↔ ((x : ℕ) → 1 ≤ times (eventSite Write) x es → 1 ≤ times (siteOf Write) x cs)
-unfolding judgeBy siteBy
-write-known position cs es = met-scan (eventSite Write) (siteOf Write) (judgeBy WriteKnown position cs) es cs (λ c. known-passes position cs (eventSite Write c))
-
--- the two validators, and both
 pub activation-sites : (position : ℕ) (cs es : List Cell) → (validateActivationSites position cs es ≡ Good) ↔ Paired cs es
-activation-sites position cs es = (
-  λ e. let g = both-good (repeatAnswer Activation position cs) (orElse (activationAnswer position es) (orElse (ruleAnswer StoreVarClaimed position es cs) (ruleAnswer BorrowKnown position cs es))) e in
-      let g′ = both-good (activationAnswer position es) (orElse (ruleAnswer StoreVarClaimed position es cs) (ruleAnswer BorrowKnown position cs es)) (g .1) in
-      let g″ = both-good (ruleAnswer StoreVarClaimed position es cs) (ruleAnswer BorrowKnown position cs es) (g′ .1) in
-      let o = repeat-good Activation position cs .0 (g .0) in
-      let a = activation-good position es .0 (g′ .0) in
-      let s = store-claimed position cs es .0 (g″ .0) in
-      let t = borrow-known position cs es .0 (g″ .1) in
-      record { once = o; borrows = a .0; same = λ x. level (times (eventSite Activation) x es) (times (siteOf Activation) x cs) (a .1 x) (o x) (t x) (s x) },
-  λ h. or-both (repeatAnswer Activation position cs) (orElse (activationAnswer position es) (orElse (ruleAnswer StoreVarClaimed position es cs) (ruleAnswer BorrowKnown position cs es))) (repeat-good Activation position cs .1 (h .once))
-      (or-both (activationAnswer position es) (orElse (ruleAnswer StoreVarClaimed position es cs) (ruleAnswer BorrowKnown position cs es))
-      (activation-good position es .1 (h .borrows, λ x. omega (arith, h .same x, h .once x)))
-      (or-both (ruleAnswer StoreVarClaimed position es cs) (ruleAnswer BorrowKnown position cs es)
-      (store-claimed position cs es .1 (λ x l. omega (arith, h .same x)))
-      (borrow-known position cs es .1 (λ x l. omega (arith, h .same x))))),
-)
+unfolding siteBy
+activation-sites position cs es =
+    let on-events = standing Events Activation es in
+    let on-commands = standing Code Activation cs in
+    let four = four-good (repeatAnswer Activation position cs) (activationAnswer position es) (ruleAnswer StoreVarClaimed position on-events cs) (ruleAnswer BorrowKnown position on-commands es) in (
+      λ e. let g = four .0 e in
+          let once = repeat-good Activation position cs .0 (g .0) in
+          let (borrows, single) = activation-good position es .0 (g .1) in
+          let s = store-claimed position on-events cs .0 (g .2) in
+          let t = borrow-known position on-commands es .0 (g .3) in
+          record { once = once; borrows = borrows; same = λ x. level (times (eventSite Activation) x es) (times (siteOf Activation) x cs) (single x) (once x) (t x) (s x) },
+      λ h. four .1 (
+        repeat-good Activation position cs .1 (h .once),
+        activation-good position es .1 (h .borrows, λ x. omega (arith, h .same x, h .once x)),
+        store-claimed position on-events cs .1 (λ x l. omega (arith, h .same x)),
+        borrow-known position on-commands es .1 (λ x l. omega (arith, h .same x)),
+      ),
+    )
   where
     level : (a b : ℕ) → a ≤ 1 → b ≤ 1 → (1 ≤ a → 1 ≤ b) → (1 ≤ b → 1 ≤ a) → a ≡ b
     level zero zero u v f g = refl
@@ -236,20 +228,30 @@ activation-sites position cs es = (
     level (suc a) (suc b) u v f g = omega arith
 
 pub write-sites : (position : ℕ) (cs es : List Cell) → (validateWriteSites position cs es ≡ Good) ↔ Claimed cs es
-write-sites position cs es = (
-  λ e. let g = both-good (repeatAnswer Write position cs) (orElse (ruleAnswer EventKind position cs es) (orElse (ruleAnswer WriteClaimed position es cs) (ruleAnswer WriteKnown position cs es))) e in
-      let g′ = both-good (ruleAnswer EventKind position cs es) (orElse (ruleAnswer WriteClaimed position es cs) (ruleAnswer WriteKnown position cs es)) (g .1) in
-      let g″ = both-good (ruleAnswer WriteClaimed position es cs) (ruleAnswer WriteKnown position cs es) (g′ .1) in
-      let o = repeat-good Write position cs .0 (g .0) in
-      let k = kind-good position cs es .0 (g′ .0) in
-      let c = claim-good position es cs .0 (g″ .0) in
-      record { once = o; borrows = k .0; writes = k .1; claimed = λ x. below (times (siteOf Write) x cs) (times (eventSite Write) x es) (o x) (c .0 x); single = c .1; known = write-known position cs es .0 (g″ .1) },
-  λ h. or-both (repeatAnswer Write position cs) (orElse (ruleAnswer EventKind position cs es) (orElse (ruleAnswer WriteClaimed position es cs) (ruleAnswer WriteKnown position cs es))) (repeat-good Write position cs .1 (h .once))
-      (or-both (ruleAnswer EventKind position cs es) (orElse (ruleAnswer WriteClaimed position es cs) (ruleAnswer WriteKnown position cs es)) (kind-good position cs es .1 (h .borrows, h .writes))
-      (or-both (ruleAnswer WriteClaimed position es cs) (ruleAnswer WriteKnown position cs es)
-      (claim-good position es cs .1 (λ x l. omega (arith, h .claimed x), h .single))
-      (write-known position cs es .1 (h .known)))),
-)
+unfolding siteBy
+write-sites position cs es =
+    let on-events = standing Events Write es in
+    let on-commands = standing Code Write cs in
+    let four = four-good (repeatAnswer Write position cs) (ruleAnswer EventKind position on-events es) (ruleAnswer WriteClaimed position on-events cs) (ruleAnswer WriteKnown position on-commands es) in (
+      λ e. let g = four .0 e in
+          let once = repeat-good Write position cs .0 (g .0) in
+          let (borrows, writes) = kind-good position on-events es .0 (g .1) in
+          let (claimed, single) = claim-good position on-events cs .0 (g .2) in
+          record {
+            once = once;
+            borrows = borrows;
+            writes = writes;
+            claimed = λ x. below (times (siteOf Write) x cs) (times (eventSite Write) x es) (once x) (claimed x);
+            single = single;
+            known = write-known position on-commands es .0 (g .3);
+          },
+      λ h. four .1 (
+        repeat-good Write position cs .1 (h .once),
+        kind-good position on-events es .1 (h .borrows, h .writes),
+        claim-good position on-events cs .1 (λ x l. omega (arith, h .claimed x), h .single),
+        write-known position on-commands es .1 (h .known),
+      ),
+    )
   where
     below : (a b : ℕ) → a ≤ 1 → (1 ≤ a → 1 ≤ b) → a ≤ b
     below zero b u f = omega arith
@@ -263,5 +265,12 @@ site-check position cs es = (
 )
 
 -- whether a function passes has nothing to do with its position
-pub anywhere : (position other : ℕ) (cs es : List Cell) → siteCheck position cs es ≡ Good → siteCheck other cs es ≡ Good
-anywhere position other cs es g = site-check other cs es .1 (site-check position cs es .0 g)
+module _ (position other : ℕ) (cs es : List Cell) where
+  pub activation-anywhere : validateActivationSites position cs es ≡ Good → validateActivationSites other cs es ≡ Good
+  activation-anywhere g = activation-sites other cs es .1 (activation-sites position cs es .0 g)
+
+  pub write-anywhere : validateWriteSites position cs es ≡ Good → validateWriteSites other cs es ≡ Good
+  write-anywhere g = write-sites other cs es .1 (write-sites position cs es .0 g)
+
+  pub anywhere : siteCheck position cs es ≡ Good → siteCheck other cs es ≡ Good
+  anywhere g = site-check other cs es .1 (site-check position cs es .0 g)

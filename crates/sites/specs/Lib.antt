@@ -1,6 +1,4 @@
 pub mod Sites
-pub mod Numbered
 pub mod Validators
-pub mod Fit
-pub mod RustTests
+pub mod Numbered
 pub mod AllSites

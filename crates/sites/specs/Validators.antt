@@ -1,10 +1,10 @@
--- The two validators of the function at a position (document 01, 'Site check' and module 3), from its instruction cells cs and its event cells
+-- Promise: the two validators of the function at a position (document 01, 'Site check' and module 3), from its instruction cells cs and its event cells
 -- es. Each refusal is the first in the document's order; `scan` goes over the cells of a part and judges each with those before it.
 use Prim.Native.Nat.{ℕ}
 use mathlib.Core.List.{List, []}
 use mathlib.Core.Bool.{Bool, cond, _&&_, not}
 use lib.Dec.{eqb}
-use Rattle.cells.specs.Answers.{unless, orElse, scan}
+use Rattle.cells.specs.Answers.{orElse, scan}
 use Rattle.cells.specs.Cells.{Cell}
 use Rattle.cells.specs.declared.refusal.Refusal.{Refusal}
 use Rattle.cells.specs.declared.refusal.Refusal.the-variants.{ActivationSiteRepeated, ActivationSiteOnWrite, ActivationSiteClaimedTwice, ActivationSitesDiffer, WriteSiteRepeated, WriteSiteOnBorrow, WriteWithoutSite, WriteSiteUnclaimed, StoreVarSiteClaimedTwice, WriteSiteUnknown}
@@ -15,8 +15,8 @@ use Rattle.sites.specs.declared.Site.{Site}
 use Rattle.sites.specs.declared.Site.the-variants.{Absent, At}
 use Rattle.sites.specs.declared.Which.{Which}
 use Rattle.sites.specs.declared.Which.the-variants.{Activation, Write}
-use Rattle.sites.specs.declared.Part.{Part}
-use Rattle.sites.specs.declared.Part.the-variants.{Code, Events}
+use Rattle.cells.specs.declared.walk.Part.{Part}
+use Rattle.cells.specs.declared.walk.Part.the-variants.{Code, Events}
 use Rattle.sites.specs.declared.Rule.{Rule}
 use Rattle.sites.specs.declared.Rule.the-variants.{StoreVarClaimed, BorrowKnown, EventKind, WriteClaimed, WriteKnown}
 
@@ -52,12 +52,16 @@ judgeEvent position before e = judgeActivation position before (isWrite e) (even
 unfoldable pub activationAnswer : ℕ → List Cell → Checked
 activationAnswer position es = scan (judgeEvent position) [] es
 
--- ---- 14, 22 to 26: each cell of a part by itself, with the cells of the other part
+-- ---- 14, 22 to 26: each cell of a part by itself, with on how many cells of the other part a site stands
 
--- 14 the two sets differ: each StoreVar's activation site stands on an event, and each event's on a StoreVar
-abbrev pub judgeMet : ℕ → Part → List Cell → Site → Checked
-judgeMet position p others Absent = Good
-judgeMet position p others (At x) = cond (eqb (times (siteBy p Activation) x others) 0) (Refused (ActivationSitesDiffer position)) Good
+-- a site that stands on none: 14 the two sets differ, 26 an event's write site on no command
+abbrev pub unmatched : Which → ℕ → ℕ → Refusal
+unmatched Activation position x = ActivationSitesDiffer position
+unmatched Write position x = WriteSiteUnknown position x
+
+abbrev pub judgeMet : Which → ℕ → (ℕ → ℕ) → Site → Checked
+judgeMet w position count Absent = Good
+judgeMet w position count (At x) = cond (eqb (count x) 0) (Refused (unmatched w position x)) Good
 
 -- 22 a Borrow event with a write site, 23 a Write event without
 abbrev pub judgeKind : ℕ → Bool → Site → Checked
@@ -65,26 +69,25 @@ judgeKind position write Absent = cond write (Refused (WriteWithoutSite position
 judgeKind position write (At x) = cond write Good (Refused (WriteSiteOnBorrow position x))
 
 -- 24 a command's write site with no event, 25 a StoreVar's with more than one
-abbrev pub judgeClaim : ℕ → List Cell → Bool → Site → Checked
-judgeClaim position others store Absent = Good
-judgeClaim position others store (At x) =
-    cond (eqb (times (siteBy Events Write) x others) 0) (Refused (WriteSiteUnclaimed position x))
-    (cond (store && not (eqb (times (siteBy Events Write) x others) 1)) (Refused (StoreVarSiteClaimedTwice position x)) Good)
+abbrev pub judgeClaim : ℕ → (ℕ → ℕ) → Bool → Site → Checked
+judgeClaim position count store Absent = Good
+judgeClaim position count store (At x) =
+    cond (eqb (count x) 0) (Refused (WriteSiteUnclaimed position x))
+    (cond (store && not (eqb (count x) 1)) (Refused (StoreVarSiteClaimedTwice position x)) Good)
 
--- 26 an event's write site on no command
-abbrev pub judgeKnown : ℕ → List Cell → Site → Checked
-judgeKnown position others Absent = Good
-judgeKnown position others (At x) = cond (eqb (times (siteBy Code Write) x others) 0) (Refused (WriteSiteUnknown position x)) Good
+unfoldable pub judgeBy : Rule → ℕ → (ℕ → ℕ) → Cell → Checked
+judgeBy StoreVarClaimed position count c = judgeMet Activation position count (siteBy Code Activation c)
+judgeBy BorrowKnown position count c = judgeMet Activation position count (siteBy Events Activation c)
+judgeBy EventKind position count c = judgeKind position (isWrite c) (siteBy Events Write c)
+judgeBy WriteClaimed position count c = judgeClaim position count (isStoreVar c) (siteBy Code Write c)
+judgeBy WriteKnown position count c = judgeMet Write position count (siteBy Events Write c)
 
-unfoldable pub judgeBy : Rule → ℕ → List Cell → Cell → Checked
-judgeBy StoreVarClaimed position others c = judgeMet position Events others (siteBy Code Activation c)
-judgeBy BorrowKnown position others c = judgeMet position Code others (siteBy Events Activation c)
-judgeBy EventKind position others c = judgeKind position (isWrite c) (siteBy Events Write c)
-judgeBy WriteClaimed position others c = judgeClaim position others (isStoreVar c) (siteBy Code Write c)
-judgeBy WriteKnown position others c = judgeKnown position others (siteBy Events Write c)
+abbrev pub ruleAnswer : Rule → ℕ → (ℕ → ℕ) → List Cell → Checked
+ruleAnswer rule position count cs = scan (λ (_ : List Cell) (c : Cell). judgeBy rule position count c) [] cs
 
-abbrev pub ruleAnswer : Rule → ℕ → List Cell → List Cell → Checked
-ruleAnswer rule position others cs = scan (λ (_ : List Cell) (c : Cell). judgeBy rule position others c) [] cs
+-- on how many cells of a part each site stands
+abbrev pub standing : Part → Which → List Cell → ℕ → ℕ
+standing p w cs x = times (siteBy p w) x cs
 
 -- ---- the validators
 
@@ -92,13 +95,14 @@ abbrev pub validateActivationSites : ℕ → List Cell → List Cell → Checked
 validateActivationSites position cs es =
     orElse (repeatAnswer Activation position cs)
     (orElse (activationAnswer position es)
-    (orElse (ruleAnswer StoreVarClaimed position es cs) (ruleAnswer BorrowKnown position cs es)))
+    (orElse (ruleAnswer StoreVarClaimed position (standing Events Activation es) cs) (ruleAnswer BorrowKnown position (standing Code Activation cs) es)))
 
+-- 22 and 23 count nothing
 abbrev pub validateWriteSites : ℕ → List Cell → List Cell → Checked
 validateWriteSites position cs es =
     orElse (repeatAnswer Write position cs)
-    (orElse (ruleAnswer EventKind position cs es)
-    (orElse (ruleAnswer WriteClaimed position es cs) (ruleAnswer WriteKnown position cs es)))
+    (orElse (ruleAnswer EventKind position (standing Events Write es) es)
+    (orElse (ruleAnswer WriteClaimed position (standing Events Write es) cs) (ruleAnswer WriteKnown position (standing Code Write cs) es)))
 
 abbrev pub siteCheck : ℕ → List Cell → List Cell → Checked
 siteCheck position cs es = orElse (validateActivationSites position cs es) (validateWriteSites position cs es)

@@ -7,33 +7,28 @@ use cells::check::MAX_EVENTS;
 use cells::check::MAX_INSTRUCTIONS;
 use cells::read;
 use cells::refusal::Checked;
+use cells::walk::Part;
 ghost use mathlib.Core.Path.{_≡_};
 ghost use mathlib.Core.List.{[]};
-ghost use Prim.Native.Nat.{ℕ, _+_, _*_, _≤_, _<_};
+ghost use Prim.Native.Nat.{_+_, _*_, _/_, _≤_};
 ghost use lib.ListN.{length, getD};
 ghost use Rattle.cells.specs.Bytes.{byte};
 ghost use Rattle.cells.specs.Cells.{cells};
-ghost use Rattle.cells.specs.Lists.{one};
-ghost use Rattle.sites.specs.Sites.{siteAt, siteOf, eventSite, siteBy, isSite, times as «timesOf»};
-ghost use Rattle.sites.specs.Numbered.{Listed};
+ghost use Rattle.cells.specs.Check.{maxInstructions, maxEvents};
+ghost use Rattle.sites.specs.Sites.{siteAt, siteOf, eventSite, siteBy};
+ghost use Rattle.sites.specs.Numbered.{Lent, SitesListed, listOver, ListsAfter, eventsAnswer, claimedRule, knownRule, validateSites};
 ghost use Rattle.sites.specs.Validators.{validateActivationSites, validateWriteSites, siteCheck};
 
 // A site: a presence byte and 4 bytes.
 pub enum Site {
     Absent,
-    At(usize),
+    At(u32),
 }
 
 // Which of the two sites.
 pub enum Which {
     Activation,
     Write,
-}
-
-// Which cells of a function.
-pub enum Part {
-    Code,
-    Events,
 }
 
 // What each cell of a part is judged by: 14 of the commands, 14 of the events, 22 and 23, 24 and 25, 26.
@@ -52,116 +47,164 @@ pub const MAKE_RECORD: u8 = 0x32;
 
 pub const WRITE: u8 = 1;
 
-// From how many bytes of events on the sites are collected into lists.
-const LISTED: usize = 256;
+// Up to how many cells a function's lists are short ones.
+pub const FEW: usize = 128;
 
-// Every StoreVar's activation site is its own and has exactly one Borrow event, and no other event has one.
-pub fn validate_activation_sites(code: &[u8], events: &[u8], position: usize) -> Checked
-    ensures { λ r. ⌜ r ≡ validateActivationSites position (cells (now (code .entry))) (cells (now (events .entry))) ⌝ }
-{
-    if events.len() < LISTED {
-        let none = [list::NO_SITE; 1];
-        return activation_sites(code, &none, 0, events, &none, 0, position);
-    }
-    let mut sites = [list::NO_SITE; MAX_INSTRUCTIONS];
-    let mut claims = [list::NO_SITE; MAX_EVENTS];
-    let k = list::collect(code, Part::Code, Which::Activation, &mut sites);
-    let m = list::collect(events, Part::Events, Which::Activation, &mut claims);
-    activation_sites(code, &sites, k, events, &claims, m, position)
-}
-
-// By the numbers of the sites of the first k commands and m events.
-fn activation_sites(
+// Every StoreVar's activation site is its own and has exactly one Borrow event, and no other event has one. The two lists are for the sites
+// on the commands and on the events.
+pub fn validate_activation_sites(
     code: &[u8],
-    sites: &[u32],
-    k: usize,
     events: &[u8],
-    claims: &[u32],
-    m: usize,
     position: usize,
+    sites: &mut [u32],
+    claims: &mut [u32],
 ) -> Checked
-    requires { ⌜ Listed Part.Code Which.Activation (cells (now code)) (now sites) k × Listed Part.Events Which.Activation (cells (now events)) (now claims) m ⌝ }
+    requires { ⌜ Lent (now code) (now events) (now sites) (now claims) ⌝ }
     ensures { λ r. ⌜ r ≡ validateActivationSites position (cells (now (code .entry))) (cells (now (events .entry))) ⌝ }
+    ensures { λ _. ⌜ (now (sites .exit) ≡ listOver Part.Code Which.Activation (now (code .entry)) (now (sites .entry))) × (now (claims .exit) ≡ listOver Part.Events Which.Activation (now (events .entry)) (now (claims .entry))) ⌝ }
 {
-    let repeated = repeats::check_repeat(code, sites, k, Which::Activation, position);
-    let Checked::Good = repeated else {
-        return repeated;
-    };
-    let claimed = repeats::check_claims(events, claims, m, position);
-    let Checked::Good = claimed else {
-        return claimed;
-    };
-    let met = rules::check_rule(code, events, claims, m, Rule::StoreVarClaimed, position);
-    let Checked::Good = met else {
-        return met;
-    };
-    rules::check_rule(events, code, sites, k, Rule::BorrowKnown, position)
+    validate(code, events, Which::Activation, position, sites, claims)
 }
 
 // Every command's write site is its own and has a Write event, a StoreVar's exactly one; and every Write event has such a site.
-pub fn validate_write_sites(code: &[u8], events: &[u8], position: usize) -> Checked
+pub fn validate_write_sites(
+    code: &[u8],
+    events: &[u8],
+    position: usize,
+    sites: &mut [u32],
+    claims: &mut [u32],
+) -> Checked
+    requires { ⌜ Lent (now code) (now events) (now sites) (now claims) ⌝ }
     ensures { λ r. ⌜ r ≡ validateWriteSites position (cells (now (code .entry))) (cells (now (events .entry))) ⌝ }
+    ensures { λ _. ⌜ (now (sites .exit) ≡ listOver Part.Code Which.Write (now (code .entry)) (now (sites .entry))) × (now (claims .exit) ≡ listOver Part.Events Which.Write (now (events .entry)) (now (claims .entry))) ⌝ }
 {
-    if events.len() < LISTED {
-        let none = [list::NO_SITE; 1];
-        return write_sites(code, &none, 0, events, &none, 0, position);
-    }
-    let mut sites = [list::NO_SITE; MAX_INSTRUCTIONS];
-    let mut claims = [list::NO_SITE; MAX_EVENTS];
-    let k = list::collect(code, Part::Code, Which::Write, &mut sites);
-    let m = list::collect(events, Part::Events, Which::Write, &mut claims);
-    write_sites(code, &sites, k, events, &claims, m, position)
+    validate(code, events, Which::Write, position, sites, claims)
 }
 
-// By the numbers of the sites of the first k commands and m events.
-fn write_sites(
+// Either of the two.
+fn validate(
+    code: &[u8],
+    events: &[u8],
+    w: Which,
+    position: usize,
+    sites: &mut [u32],
+    claims: &mut [u32],
+) -> Checked
+    requires { ⌜ Lent (now code) (now events) (now sites) (now claims) ⌝ }
+    ensures { λ r. ⌜ r ≡ validateSites w position (cells (now (code .entry))) (cells (now (events .entry))) ⌝ }
+    ensures { λ _. ⌜ (now (sites .exit) ≡ listOver Part.Code w (now (code .entry)) (now (sites .entry))) × (now (claims .exit) ≡ listOver Part.Events w (now (events .entry)) (now (claims .entry))) ⌝ }
+{
+    let k = list::collect(code, Part::Code, w, sites);
+    let m = list::collect(events, Part::Events, w, claims);
+    check_listed(code, sites, k, events, claims, m, w, position)
+}
+
+// By the sites on the commands, the first k of a list, and on the events, the first m of another.
+fn check_listed(
     code: &[u8],
     sites: &[u32],
     k: usize,
     events: &[u8],
     claims: &[u32],
     m: usize,
+    w: Which,
     position: usize,
 ) -> Checked
-    requires { ⌜ Listed Part.Code Which.Write (cells (now code)) (now sites) k × Listed Part.Events Which.Write (cells (now events)) (now claims) m ⌝ }
-    ensures { λ r. ⌜ r ≡ validateWriteSites position (cells (now (code .entry))) (cells (now (events .entry))) ⌝ }
+    requires { ⌜ SitesListed Part.Code w (cells (now code)) (now sites) k × SitesListed Part.Events w (cells (now events)) (now claims) m ⌝ }
+    ensures { λ r. ⌜ r ≡ validateSites w position (cells (now (code .entry))) (cells (now (events .entry))) ⌝ }
 {
-    let repeated = repeats::check_repeat(code, sites, k, Which::Write, position);
+    let repeated = repeats::check_repeat(code, Part::Code, w, sites, k, position);
     let Checked::Good = repeated else {
         return repeated;
     };
-    let kinds = rules::check_rule(events, code, sites, k, Rule::EventKind, position);
-    let Checked::Good = kinds else {
-        return kinds;
+    let unfit = check_events(events, claims, m, w, position);
+    let Checked::Good = unfit else {
+        return unfit;
     };
-    let claimed = rules::check_rule(code, events, claims, m, Rule::WriteClaimed, position);
-    let Checked::Good = claimed else {
-        return claimed;
+    if k + m == 0 {
+        return Checked::Good;
+    }
+    let unclaimed = rules::check_rule(code, claims, m, claimed_rule(w), position);
+    let Checked::Good = unclaimed else {
+        return unclaimed;
     };
-    rules::check_rule(events, code, sites, k, Rule::WriteKnown, position)
+    rules::check_rule(events, sites, k, known_rule(w), position)
+}
+
+// The events by themselves: 12 and 13, or 22 and 23.
+fn check_events(events: &[u8], claims: &[u32], m: usize, w: Which, position: usize) -> Checked
+    requires { ⌜ SitesListed Part.Events w (cells (now events)) (now claims) m ⌝ }
+    ensures { λ r. ⌜ r ≡ eventsAnswer w position (cells (now (events .entry))) ⌝ }
+{
+    match w {
+        Which::Activation => repeats::check_repeat(events, Part::Events, w, claims, m, position),
+        Which::Write => rules::check_rule(events, claims, m, Rule::EventKind, position),
+    }
+}
+
+// What the commands are judged by, and the events.
+fn claimed_rule(w: Which) -> Rule
+    ensures { λ r. ⌜ r ≡ claimedRule w ⌝ }
+{
+    match w {
+        Which::Activation => Rule::StoreVarClaimed,
+        Which::Write => Rule::WriteClaimed,
+    }
+}
+
+fn known_rule(w: Which) -> Rule
+    ensures { λ r. ⌜ r ≡ knownRule w ⌝ }
+{
+    match w {
+        Which::Activation => Rule::BorrowKnown,
+        Which::Write => Rule::WriteKnown,
+    }
 }
 
 // Both validators; a function with no cells passes.
 pub fn check_sites(code: &[u8], events: &[u8], position: usize) -> Checked
+    requires { ⌜ (length (now code) / 16 ≤ maxInstructions) × (length (now events) / 16 ≤ maxEvents) ⌝ }
     ensures { λ r. ⌜ r ≡ siteCheck position (cells (now (code .entry))) (cells (now (events .entry))) ⌝ }
 {
     if (code.len() < read::CELL) & (events.len() < read::CELL) {
         return Checked::Good;
     }
-    let activation = validate_activation_sites(code, events, position);
+    if (code.len() / read::CELL <= FEW) & (events.len() / read::CELL <= FEW) {
+        let mut sites = [0u32; FEW];
+        let mut claims = [0u32; FEW];
+        return check_by(code, events, position, &mut sites, &mut claims);
+    }
+    let mut sites = [0u32; MAX_INSTRUCTIONS];
+    let mut claims = [0u32; MAX_EVENTS];
+    check_by(code, events, position, &mut sites, &mut claims)
+}
+
+// With two lists for the sites.
+fn check_by(
+    code: &[u8],
+    events: &[u8],
+    position: usize,
+    sites: &mut [u32],
+    claims: &mut [u32],
+) -> Checked
+    requires { ⌜ Lent (now code) (now events) (now sites) (now claims) ⌝ }
+    ensures { λ r. ⌜ r ≡ siteCheck position (cells (now (code .entry))) (cells (now (events .entry))) ⌝ }
+    ensures { λ _. ⌜ ListsAfter position (now (code .entry)) (now (events .entry)) (now (sites .entry)) (now (claims .entry)) (now (sites .exit)) (now (claims .exit)) ⌝ }
+{
+    let activation = validate_activation_sites(code, events, position, sites, claims);
     let Checked::Good = activation else {
         return activation;
     };
-    validate_write_sites(code, events, position)
+    validate_write_sites(code, events, position, sites, claims)
 }
 
-// The site whose presence byte is at.
+// The site at an offset, where its presence byte stands.
 pub fn site_at(c: &[u8], at: usize) -> Site
     requires { ⌜ at + 5 ≤ length (now c) ⌝ }
     ensures { λ r. ⌜ r ≡ siteAt (now (c .entry)) at ⌝ }
 {
     if c[at] == 1 {
-        Site::At(read::word(c, at + 1))
+        Site::At(read::word(c, at + 1) as u32)
     } else {
         Site::Absent
     }
@@ -226,45 +269,8 @@ pub fn first_byte(s: &[u8], i: usize) -> u8
     s[a]
 }
 
-// Whether a site is there, and is x.
-pub fn is_site(s: Site, x: usize) -> bool
-    ensures { λ r. ⌜ r ≡ isSite x s ⌝ }
+pub fn wide(x: u32) -> usize
+    ensures { λ r. ⌜ r ≡ x ⌝ }
 {
-    match s {
-        Site::At(y) => y == x,
-        Site::Absent => false,
-    }
-}
-
-fn one_if(b: bool) -> usize
-    ensures { λ r. ⌜ (r ≡ one b) × (r ≤ 1) ⌝ }
-{
-    if b { 1 } else { 0 }
-}
-
-// On how many cells of a part a site stands; numbers has those of the first k.
-pub fn times(s: &[u8], p: Part, w: Which, numbers: &[u32], k: usize, x: usize) -> usize
-    requires { ⌜ Listed p w (cells (now s)) (now numbers) k ⌝ }
-    ensures { λ r. ⌜ r ≡ timesOf (siteBy p w) x (cells (now (s .entry))) ⌝ }
-{
-    if k < s.len() / read::CELL {
-        return times_by_cell(s, p, w, x);
-    }
-    if x < list::NUMBERED {
-        return list::count(numbers, k, x as u32) as usize;
-    }
-    times_by_cell(s, p, w, x)
-}
-
-fn times_by_cell(s: &[u8], p: Part, w: Which, x: usize) -> usize
-    ensures { λ r. ⌜ r ≡ timesOf (siteBy p w) x (cells (now (s .entry))) ⌝ }
-{
-    let n = s.len() / read::CELL;
-    let mut count = 0;
-    let mut i = 0;
-    while i < n {
-        count += one_if(is_site(site_by(s, p, w, i), x));
-        i += 1;
-    }
-    count
+    x as usize
 }

@@ -2,6 +2,8 @@
 //! the proved rewrite on the same images, in one process.
 
 mod images;
+#[cfg(feature = "library")]
+mod search;
 
 use differential::answers::Operation;
 use differential::cells::{CELL, MAX_IMAGE};
@@ -13,16 +15,32 @@ use std::time::{Duration, Instant};
 /// How long one figure is measured, unless `--milliseconds` says otherwise.
 const TIME: Duration = Duration::from_millis(400);
 
+const USAGE: &str = "usage: [--milliseconds N], or with the library: --search SEED SECONDS";
+
+fn wrong_use() -> ! {
+    eprintln!("{USAGE}");
+    std::process::exit(2)
+}
+
 fn main() {
     let time = match std::env::args().skip(1).collect::<Vec<_>>().as_slice() {
         [] => TIME,
+        [word] if word == "--help" => {
+            println!("{USAGE}");
+            return;
+        }
+        #[cfg(feature = "library")]
+        [word, seed, seconds] if word == "--search" => {
+            match (seed.parse(), seconds.parse()) {
+                (Ok(seed), Ok(seconds)) => search::run(seed, Duration::from_secs(seconds)),
+                _ => wrong_use(),
+            }
+            return;
+        }
         [word, value] if word == "--milliseconds" && value.parse::<u64>().is_ok() => {
             Duration::from_millis(value.parse().unwrap())
         }
-        _ => {
-            eprintln!("usage: [--milliseconds N]");
-            std::process::exit(2);
-        }
+        _ => wrong_use(),
     };
 
     println!("ns for one image, the fastest of many rounds; outputs are lent once and not cleared");

@@ -8,24 +8,11 @@ use Rattle.capi.proofs.matchdesk_rewrite.Lts as lts
 use Rattle.capi.proofs.reply_of_rewrite.Reads as reply-of-rewrite-reads
 use Rattle.passes.proofs.run_default_opt_passes.Reads as run-default-opt-passes-reads
 
--- src/lib.rt:66:30
-run-default-opt-passes-requires : tie.Need-run-default-opt-passes-requires
-run-default-opt-passes-requires c κs = search needs
-
--- src/lib.rt:66:9
-reply-of-rewrite-requires : tie.Need-reply-of-rewrite-requires
-reply-of-rewrite-requires c κs = search needs
-
--- src/lib.rt:62:1
-same-length : tie.Need-same-length
-same-length c = search needs
-
--- src/lib.rt:62:1
 returns : tie.Need-returns
 returns c =
-    rewrite-replied _ _ _ _ (c .reply-of-rewrite .result) (c .before .before .before .run-default-opt-passes .ensures) (c .reply-of-rewrite .ensures)
+    rewrite-replied _ _ _ _ _ (c .reply-of-rewrite .result) (c .before .before .before .run-default-opt-passes .ensures) (c .reply-of-rewrite .ensures)
 
 pub matchdesk-rewrite-spec : {M : Type 1} → statement M
 matchdesk-rewrite-spec =
     tie.close
-    (tie.spec run-default-opt-passes-requires reply-of-rewrite-requires same-length returns)
+    (tie.spec (λ c κs. search needs) (λ c κs. search needs) (λ c. search needs) returns)

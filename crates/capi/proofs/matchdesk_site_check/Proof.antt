@@ -8,18 +8,9 @@ use Rattle.capi.proofs.matchdesk_site_check.Lts as lts
 use Rattle.capi.proofs.reply_of_check.Reads as reply-of-check-reads
 use Rattle.image.proofs.site_check.Reads as site-check-reads
 
--- src/lib.rt:33:28
-site-check-requires : tie.Need-site-check-requires
-site-check-requires c κs = search needs
-
--- src/lib.rt:33:9
-reply-of-check-requires : tie.Need-reply-of-check-requires
-reply-of-check-requires c κs = search needs
-
--- src/lib.rt:29:1
 returns : tie.Need-returns
 returns c = sites-replied _ _ (c .reply-of-check .result) (c .before .site-check .ensures) (c .reply-of-check .ensures)
 
 pub matchdesk-site-check-spec : {M : Type 1} → statement M
 matchdesk-site-check-spec =
-    tie.close (tie.spec site-check-requires reply-of-check-requires returns)
+    tie.close (tie.spec (λ c κs. search needs) (λ c κs. search needs) returns)

@@ -10,20 +10,6 @@ use Rattle.cleanup.proofs.Heads.{counts-few, written-function}
 use borrow.Author.Needs.{needs}
 use Rattle.cleanup.proofs.cleanup_to.Statement.{statement}
 use Rattle.cleanup.proofs.cleanup_to.Tie as tie
-use Rattle.cleanup.proofs.cleanup_to.Reads as reads
-use Rattle.cleanup.proofs.cleanup_to.Lts as lts
-use Rattle.cells.proofs.read.put_cell.Reads as put-cell-reads
-use Rattle.cells.proofs.read.put_half.Reads as put-half-reads
-use Rattle.cleanup.proofs.cleanup_function.Reads as cleanup-function-reads
-
-sub-cleanup-function : tie.Need-sub-cleanup-function
-sub-cleanup-function c = search needs
-
-part-cleanup-function-start : tie.Need-part-cleanup-function-start
-part-cleanup-function-start c = search needs
-
-part-cleanup-function-end : tie.Need-part-cleanup-function-end
-part-cleanup-function-end c = search needs
 
 cleanup-function-requires : tie.Need-cleanup-function-requires
 cleanup-function-requires c κs =
@@ -35,9 +21,6 @@ cleanup-function-requires c κs =
       few-events = p .few-events;
       room = simp length-take (omega (arith, length-drop 16 (now (c .before .before .before .before .before .args .out)), p .room));
     }
-
-put-cell-requires : tie.Need-put-cell-requires
-put-cell-requires c κs = search needs
 
 put-half-requires : tie.Need-put-half-requires
 put-half-requires c κs =
@@ -56,9 +39,6 @@ put-half-requires-2 c κs =
     let v = simp length-set at (ap length (c .before .before .before .put-half .ensures)) in
     (omega (arith, u, v, length-cell-at (now (a .head)) 0 (omega arith)), omega (arith, k .0, k .1, length-cells (now (a .code)), length-cells (now (a .events)), f .before .before .before .before .before .before .pre .2 .few-instructions, f .before .before .before .before .before .before .pre .2 .few-events))
 
-same-length : tie.Need-same-length
-same-length c = search needs
-
 returns : tie.Need-returns
 returns c =
     let f = c .before .before .before .before .before .before .before .before .before .before .before .before .before .before in
@@ -73,12 +53,12 @@ pub cleanup-to-spec : {M : Type 1} → statement M
 cleanup-to-spec =
     tie.close
     (tie.spec
-    sub-cleanup-function
-    part-cleanup-function-start
-    part-cleanup-function-end
+    (λ c. search needs)
+    (λ c. search needs)
+    (λ c. search needs)
     cleanup-function-requires
-    put-cell-requires
+    (λ c κs. search needs)
     put-half-requires
     put-half-requires-2
-    same-length
+    (λ c. search needs)
     returns)

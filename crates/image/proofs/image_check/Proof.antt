@@ -8,13 +8,8 @@ use Rattle.image.proofs.image_check.Reads as reads
 use Rattle.image.proofs.image_check.Lts as lts
 use Rattle.image.proofs.check.check_image.Reads as check-image-reads
 
--- src/lib.rt:19:5
-check-image-requires : tie.Need-check-image-requires
-check-image-requires c κs = search needs
-
--- src/lib.rt:16:1
 returns : tie.Need-returns
 returns c = image-checked (now (c .before .before .args .image)) (c .check-image .result) (c .check-image .ensures)
 
 pub image-check-spec : {M : Type 1} → statement M
-image-check-spec = tie.close (tie.spec check-image-requires returns)
+image-check-spec = tie.close (tie.spec (λ c κs. search needs) returns)

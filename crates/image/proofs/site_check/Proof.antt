@@ -10,7 +10,7 @@ use Rattle.cells.specs.declared.refusal.Checked.{Checked}
 use Rattle.cells.specs.declared.refusal.Checked.the-variants.{Good, Refused}
 use Rattle.cells.proofs.Answers.{halts, goes}
 use Rattle.image.specs.Image.{imageAnswer}
-use Rattle.image.specs.Sites.{sitesAnswer, siteAnswer}
+use Rattle.image.specs.SiteCheck.{sitesAnswer, siteAnswer}
 use Rattle.image.specs.Operations.{SiteChecked}
 use Rattle.image.proofs.Good.{site-checked}
 use borrow.Author.Needs.{needs}
@@ -29,26 +29,9 @@ by-sites : (s : List ℕ) {r q : Checked} → r ≡ imageAnswer s → r ≡ Good
 unfolding siteAnswer
 by-sites s {r} {q} e g f = site-checked s q (goes e g f)
 
--- src/lib.rt:26:9
-check-image-requires : tie.Need-check-image-requires
-check-image-requires c κs = search needs
-
-enum-told : tie.Need-enum-told
-enum-told c = search needs
-
--- src/lib.rt:28:9
-enum-told-2 : tie.Need-enum-told-2
-enum-told-2 c = search needs
-
--- src/lib.rt:28:9
 returns : tie.Need-returns
 returns c = by-image (now (c .before .before .before .before .args .image)) (c .before .before .check-image .ensures) (c .enum-told2 .given .1)
 
--- src/lib.rt:30:5
-check-functions-requires : tie.Need-check-functions-requires
-check-functions-requires c κs = sym (c .before .before .check-image .ensures) ∙ c .enum-told .given .1
-
--- src/lib.rt:23:1
 returns-2 : tie.Need-returns-2
 returns-2 c = by-sites (now (c .before .before .before .before .before .args .image)) (c .before .before .before .check-image .ensures) (c .before .enum-told .given .1) (c .check-functions .ensures)
 
@@ -56,9 +39,9 @@ pub site-check-spec : {M : Type 1} → statement M
 site-check-spec =
     tie.close
     (tie.spec
-    check-image-requires
-    enum-told
-    enum-told-2
+    (λ c κs. search needs)
+    (λ c. search needs)
+    (λ c. search needs)
     returns
-    check-functions-requires
+    (λ c κs. sym (c .before .before .check-image .ensures) ∙ c .enum-told .given .1)
     returns-2)

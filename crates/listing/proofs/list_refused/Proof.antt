@@ -10,12 +10,6 @@ use borrow.Author.Needs.{needs}
 use Rattle.listing.proofs.list_refused.Statement.{statement}
 use Rattle.listing.proofs.list_refused.Tie as tie
 
-slice-aggregate-put-refused : tie.Need-slice-aggregate-put-refused
-slice-aggregate-put-refused c = search needs
-
-put-refused-requires : tie.Need-put-refused-requires
-put-refused-requires c κs = search needs
-
 returns : tie.Need-returns
 returns c =
     let a = c .before .before .before .before .before .args in
@@ -38,9 +32,6 @@ append-requires c κs =
     let w = c .before .before .before .before .put-refused .ensures in
     omega (arith, w .end, ap length (written-take w), c .before .before .if1 .left)
 
-same-length : tie.Need-same-length
-same-length c = search needs
-
 returns-2 : tie.Need-returns-2
 returns-2 c =
     let a = c .before .before .before .before .before .before .before .before .before .before .args in
@@ -51,11 +42,11 @@ pub list-refused-spec : {M : Type 1} → statement M
 list-refused-spec =
     tie.close
     (tie.spec
-    slice-aggregate-put-refused
-    put-refused-requires
+    (λ c. search needs)
+    (λ c κs. search needs)
     returns
     array-share-prefix-line
     slice-aggregate-append
     append-requires
-    same-length
+    (λ c. search needs)
     returns-2)

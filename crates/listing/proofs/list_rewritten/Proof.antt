@@ -13,31 +13,16 @@ use borrow.Author.Needs.{needs}
 use Rattle.listing.proofs.list_rewritten.Statement.{statement}
 use Rattle.listing.proofs.list_rewritten.Tie as tie
 
-slice-aggregate-put-rewrites : tie.Need-slice-aggregate-put-rewrites
-slice-aggregate-put-rewrites c = search needs
-
-put-rewrites-requires : tie.Need-put-rewrites-requires
-put-rewrites-requires c κs = search needs
-
 returns : tie.Need-returns
 returns c =
     let a = c .before .before .before .before .before .before .args in
     listing-short (rewrittenText (cellsOf (now (a .cells))) (a .rewrites)) (now (a .text)) (omega (arith, length-rewritten (now (a .cells)) (a .rewrites)))
-
-mul-lines : tie.Need-mul-lines
-mul-lines c = search needs
-
-sub-if2 : tie.Need-sub-if2
-sub-if2 c = search needs
 
 returns-2 : tie.Need-returns-2
 returns-2 c =
     let a = c .before .before .before .before .before .before .before .args in
     let w = c .before .before .before .put-rewrites .ensures in
     listing-short (rewrittenText (cellsOf (now (a .cells))) (a .rewrites)) (now (a .text)) (omega (arith, w .end, length-rewritten (now (a .cells)) (a .rewrites)))
-
-put-cells-requires : tie.Need-put-cells-requires
-put-cells-requires c κs = search needs
 
 array-share-prefix-line : tie.Need-array-share-prefix-line
 array-share-prefix-line c =
@@ -57,9 +42,6 @@ append-requires c κs =
     let v = c .before .before .before .before .put-cells .ensures in
     omega (arith, w .end, ap length (written-take w), v .end, length-lines (cellsOf s) (full-cells s), length-cells s, c .before .before .before .before .put-cells .kept)
 
-same-length : tie.Need-same-length
-same-length c = search needs
-
 returns-3 : tie.Need-returns-3
 unfolding rewrittenText
 returns-3 c =
@@ -73,15 +55,15 @@ pub list-rewritten-spec : {M : Type 1} → statement M
 list-rewritten-spec =
     tie.close
     (tie.spec
-    slice-aggregate-put-rewrites
-    put-rewrites-requires
+    (λ c. search needs)
+    (λ c κs. search needs)
     returns
-    mul-lines
-    sub-if2
+    (λ c. search needs)
+    (λ c. search needs)
     returns-2
-    put-cells-requires
+    (λ c κs. search needs)
     array-share-prefix-line
     slice-aggregate-append
     append-requires
-    same-length
+    (λ c. search needs)
     returns-3)

@@ -8,7 +8,7 @@ use lib.ListN.{length, take, length-take, length-drop}
 use Rattle.cells.specs.Cells.{cells as cellsOf, cellAt}
 use Rattle.cells.proofs.Cells.{length-cell-at}
 use Rattle.listing.specs.Text.{cellLine, cellLines}
-use Rattle.listing.specs.Contracts.{Written}
+use Rattle.listing.specs.Contracts.{TextWritten}
 use Rattle.listing.proofs.Pieces.{end-at, written-none}
 use Rattle.listing.proofs.Lines.{length-line, written-line, all-lines}
 use borrow.Author.Needs.{needs}
@@ -16,7 +16,7 @@ use Rattle.listing.proofs.put_cells.Statement.{statement}
 use Rattle.listing.proofs.put_cells.Tie as tie
 
 abbrev Inv-loop : tie.InvT-loop
-Inv-loop cells text₀ n at₀ i₀ text at i = (i ≤ n) × (at ≡ 33 * i) × (length text ≡ length text₀) × Written (cellLines (take i (cellsOf cells))) text₀ text at
+Inv-loop cells text₀ n at₀ i₀ text at i = (i ≤ n) × (at ≡ 33 * i) × (length text ≡ length text₀) × TextWritten (cellLines (take i (cellsOf cells))) text₀ text at
 
 abbrev μ-loop : tie.MeasureT-loop
 μ-loop cells text₀ n at₀ i₀ text at i = n - i
@@ -25,30 +25,9 @@ loop-holds : tie.Need-loop-holds Inv-loop μ-loop
 loop-holds c =
     (omega arith, refl, refl, written-none (now (c .before .before .args .text)))
 
-mul-a : tie.Need-mul-a Inv-loop μ-loop
-mul-a c = search needs
-
-add-b : tie.Need-add-b Inv-loop μ-loop
-add-b c = search needs
-
-add-i : tie.Need-add-i Inv-loop μ-loop
-add-i c = search needs
-
-sub-put-line : tie.Need-sub-put-line Inv-loop μ-loop
-sub-put-line c = search needs
-
-part-put-line-start : tie.Need-part-put-line-start Inv-loop μ-loop
-part-put-line-start c = search needs
-
-part-put-line-end : tie.Need-part-put-line-end Inv-loop μ-loop
-part-put-line-end c = search needs
-
 put-line-requires : tie.Need-put-line-requires Inv-loop μ-loop
 put-line-requires c κs =
     (simp (length-take, length-drop) (omega arith), omega arith)
-
-loop-less : tie.Need-loop-less Inv-loop μ-loop
-loop-less c = search needs
 
 loop-again : tie.Need-loop-again Inv-loop μ-loop
 loop-again c =
@@ -57,16 +36,13 @@ loop-again c =
     let s = now (a .cells) in
     let h : l .i < length s / 16 = omega arith in
     let e : 16 * l .i + 16 - 16 * l .i ≡ 16 = omega arith in
-    let w : Written (take (l .at) (l .text) ++ cellLine (cellAt s (l .i))) (l .text) (c .before .before .put-line .last .1 .0) (c .before .before .put-line .result) = rw e at (c .before .before .put-line .ensures) in
+    let w : TextWritten (take (l .at) (l .text) ++ cellLine (cellAt s (l .i))) (l .text) (c .before .before .put-line .last .1 .0) (c .before .before .put-line .result) = rw e at (c .before .before .put-line .ensures) in
     let n = length-line (cellAt s (l .i)) (length-cell-at s (l .i) (omega arith)) in (
       omega arith,
       omega (arith, n, end-at (l .text) (cellLine (cellAt s (l .i))) (l .at) _ (omega arith) (w .end)),
       omega (arith, c .before .before .put-line .kept),
       written-line s (l .i) (l .inv .3) h w,
     )
-
-same-length : tie.Need-same-length Inv-loop μ-loop
-same-length c = search needs
 
 returns : tie.Need-returns Inv-loop μ-loop
 returns c =
@@ -82,14 +58,14 @@ put-cells-spec =
     Inv-loop
     μ-loop
     loop-holds
-    mul-a
-    add-b
-    add-i
-    sub-put-line
-    part-put-line-start
-    part-put-line-end
+    (λ c. search needs)
+    (λ c. search needs)
+    (λ c. search needs)
+    (λ c. search needs)
+    (λ c. search needs)
+    (λ c. search needs)
     put-line-requires
-    loop-less
+    (λ c. search needs)
     loop-again
-    same-length
+    (λ c. search needs)
     returns)

@@ -10,23 +10,14 @@ use borrow.Author.Needs.{needs}
 use Rattle.listing.proofs.put_field.Statement.{statement}
 use Rattle.listing.proofs.put_field.Tie as tie
 
-put-decimal-requires : tie.Need-put-decimal-requires
-put-decimal-requires c κs = omega (arith, length-decimal (c .before .before .args .n))
-
 -- the numeral's end leaves room for the byte
 end-of : (c : tie.After-slice-known2) → c .before .before .put-decimal .result < length (now (c .before .before .before .before .before .args .text))
 end-of c =
     let a = c .before .before .before .before .before .args in
     omega (arith, end-at (now (a .text)) (decimal (a .n)) (a .at) _ (omega arith) (c .before .before .put-decimal .ensures .end), length-decimal (a .n))
 
-slice-write-text : tie.Need-slice-write-text
-slice-write-text c = omega (arith, end-of c, c .before .before .put-decimal .kept)
-
 add-result : tie.Need-add-result
 add-result c = record { fits = omega (arith, end-of c, c .before .before .before .before .before .good .1 .1 .0 .0) }
-
-same-length : tie.Need-same-length
-same-length c = search needs
 
 returns : tie.Need-returns
 returns c =
@@ -35,4 +26,4 @@ returns c =
 
 pub put-field-spec : {M : Type 1} → statement M
 put-field-spec =
-    tie.close (tie.spec put-decimal-requires slice-write-text add-result same-length returns)
+    tie.close (tie.spec (λ c κs. omega (arith, length-decimal (c .before .before .args .n))) (λ c. omega (arith, end-of c, c .before .before .put-decimal .kept)) add-result (λ c. search needs) returns)

@@ -9,15 +9,6 @@ use borrow.Author.Needs.{needs}
 use Rattle.listing.proofs.put_refused.Statement.{statement}
 use Rattle.listing.proofs.put_refused.Tie as tie
 
-slice-aggregate-append : tie.Need-slice-aggregate-append
-slice-aggregate-append c = search needs
-
-append-requires : tie.Need-append-requires
-append-requires c κs = search needs
-
-put-field-requires : tie.Need-put-field-requires
-put-field-requires c κs = search needs
-
 put-field-requires-2 : tie.Need-put-field-requires-2
 put-field-requires-2 c κs =
     let a = c .before .before .before .before .before .before .before .before .before .before .before .args in
@@ -31,9 +22,6 @@ put-field-requires-3 c κs =
     let w = written-next v (field (a .position) blank) (c .before .before .before .put-field2 .ensures) in
     omega (arith, w .end, length-append (field (a .number) blank) (field (a .position) blank), length-field (a .number) blank, length-field (a .position) blank, c .before .before .before .put-field2 .kept, c .before .before .before .before .before .before .before .put-field .kept, c .before .before .before .before .before .before .before .before .before .before .before .append .kept)
 
-same-length : tie.Need-same-length
-same-length c = search needs
-
 returns : tie.Need-returns
 unfolding refusedText
 returns c =
@@ -46,10 +34,10 @@ pub put-refused-spec : {M : Type 1} → statement M
 put-refused-spec =
     tie.close
     (tie.spec
-    slice-aggregate-append
-    append-requires
-    put-field-requires
+    (λ c. search needs)
+    (λ c κs. search needs)
+    (λ c κs. search needs)
     put-field-requires-2
     put-field-requires-3
-    same-length
+    (λ c. search needs)
     returns)

@@ -5,18 +5,6 @@ use borrow.Author.Needs.{needs}
 use Rattle.listing.proofs.put_rewrites.Statement.{statement}
 use Rattle.listing.proofs.put_rewrites.Tie as tie
 
-slice-aggregate-append : tie.Need-slice-aggregate-append
-slice-aggregate-append c = search needs
-
-append-requires : tie.Need-append-requires
-append-requires c κs = search needs
-
-put-field-requires : tie.Need-put-field-requires
-put-field-requires c κs = search needs
-
-same-length : tie.Need-same-length
-same-length c = search needs
-
 returns : tie.Need-returns
 unfolding rewritesLine
 returns c =
@@ -25,4 +13,4 @@ returns c =
 pub put-rewrites-spec : {M : Type 1} → statement M
 put-rewrites-spec =
     tie.close
-    (tie.spec slice-aggregate-append append-requires put-field-requires same-length returns)
+    (tie.spec (λ c. search needs) (λ c κs. search needs) (λ c κs. search needs) (λ c. search needs) returns)

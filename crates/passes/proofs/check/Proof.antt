@@ -9,25 +9,17 @@ use Rattle.passes.proofs.check.Reads as reads
 use Rattle.passes.proofs.check.Lts as lts
 use Rattle.image.proofs.site_check.Reads as site-check-reads
 
--- src/lib.rt:87:9
 returns : tie.Need-returns
 returns c = check-long (now (c .before .before .args .image)) (c .before .before .args .room) (c .if1 .taken)
 
--- src/lib.rt:90:9
 returns-2 : tie.Need-returns-2
 returns-2 c = check-uneven (now (c .before .before .before .args .image)) (c .before .before .before .args .room) (c .before .if1 .left) (c .if2 .taken)
 
--- src/lib.rt:93:9
 returns-3 : tie.Need-returns-3
 returns-3 c = check-room (now (c .before .before .before .before .args .image)) (c .before .before .before .before .args .room) (c .before .before .if1 .left) (c .before .if2 .left) (c .if3 .taken)
 
--- src/lib.rt:95:5
-site-check-requires : tie.Need-site-check-requires
-site-check-requires c κs = search needs
-
--- src/lib.rt:83:1
 returns-4 : tie.Need-returns-4
 returns-4 c = c .site-check .ensures .answer ∙ check-sites (now (c .before .before .before .before .before .args .image)) (c .before .before .before .before .before .args .room) (c .before .before .before .if1 .left) (c .before .before .if2 .left) (c .before .if3 .left)
 
 pub check-spec : {M : Type 1} → statement M
-check-spec = tie.close (tie.spec returns returns-2 returns-3 site-check-requires returns-4)
+check-spec = tie.close (tie.spec returns returns-2 returns-3 (λ c κs. search needs) returns-4)

@@ -9,15 +9,6 @@ use Rattle.passes.proofs.cleanup.Reads as reads
 use Rattle.passes.proofs.cleanup.Lts as lts
 use Rattle.passes.proofs.run.Reads as run-reads
 
--- src/lib.rt:45:5
-run-requires : tie.Need-run-requires
-run-requires c κs = search needs
-
--- src/lib.rt:42:1
-same-length : tie.Need-same-length
-same-length c = search needs
-
--- src/lib.rt:42:1
 returns : tie.Need-returns
 returns c =
     let k = c .before .before in
@@ -25,4 +16,4 @@ returns c =
     pass-done Cleanup (now (q .args .image)) (now (q .args .out)) _ (k .run .result) (k .run .ensures .0) (k .run .ensures .1)
 
 pub cleanup-spec : {M : Type 1} → statement M
-cleanup-spec = tie.close (tie.spec run-requires same-length returns)
+cleanup-spec = tie.close (tie.spec (λ c κs. search needs) (λ c. search needs) returns)

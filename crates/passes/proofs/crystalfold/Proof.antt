@@ -1,6 +1,7 @@
 -- `passes::crystalfold` meets its contract.
 use denote.Ref.{now}
 use Rattle.passes.specs.declared.Pass.the-variants.{CrystalFold}
+use Rattle.crystalfold.specs.declared.rules.RuleSet.the-variants.{Default}
 use Rattle.passes.proofs.Done.{pass-done}
 use borrow.Author.Needs.{needs}
 use Rattle.passes.proofs.crystalfold.Statement.{statement}
@@ -9,20 +10,11 @@ use Rattle.passes.proofs.crystalfold.Reads as reads
 use Rattle.passes.proofs.crystalfold.Lts as lts
 use Rattle.passes.proofs.run.Reads as run-reads
 
--- src/lib.rt:52:5
-run-requires : tie.Need-run-requires
-run-requires c κs = search needs
-
--- src/lib.rt:49:1
-same-length : tie.Need-same-length
-same-length c = search needs
-
--- src/lib.rt:49:1
 returns : tie.Need-returns
 returns c =
     let k = c .before .before in
     let q = k .before .before .before .before in
-    pass-done CrystalFold (now (q .args .image)) (now (q .args .out)) _ (k .run .result) (k .run .ensures .0) (k .run .ensures .1)
+    pass-done (CrystalFold Default) (now (q .args .image)) (now (q .args .out)) _ (k .run .result) (k .run .ensures .0) (k .run .ensures .1)
 
 pub crystalfold-spec : {M : Type 1} → statement M
-crystalfold-spec = tie.close (tie.spec run-requires same-length returns)
+crystalfold-spec = tie.close (tie.spec (λ c κs. search needs) (λ c. search needs) returns)

@@ -1,5 +1,5 @@
 -- `sites::first_byte` meets its contract.
-use mathlib.Core.Path.{_≡_, ap, sym, _∙_}
+use mathlib.Core.Path.{ap, sym, _∙_}
 use mathlib.Core.List.{List}
 use Prim.Native.Nat.{ℕ, _*_, _/_, _<_}
 use native.Mathlib.Nat.{add-zero}
@@ -12,18 +12,7 @@ use Rattle.cells.proofs.Cells.{cell-at}
 use borrow.Author.Needs.{needs}
 use Rattle.sites.proofs.first_byte.Statement.{statement}
 use Rattle.sites.proofs.first_byte.Tie as tie
-use Rattle.sites.proofs.first_byte.Reads as reads
-use Rattle.sites.proofs.first_byte.Lts as lts
 
--- src/lib.rt:127:13
-mul-a : tie.Need-mul-a
-mul-a c = search needs
-
--- src/lib.rt:128:5
-shared-slice-read-result : tie.Need-shared-slice-read-result
-shared-slice-read-result c = search needs
-
--- src/lib.rt:123:1
 returns : tie.Need-returns
 returns c =
     let a = c .before .args in
@@ -32,4 +21,4 @@ returns c =
     sym (ap (λ (x : List ℕ). byte x 0) (cell-at s (a .i) h) ∙ getD-take 16 (drop (16 * a .i) s) 0 0 (omega arith) ∙ getD-drop (16 * a .i) s 0 0 ∙ ap (λ (k : ℕ). getD s k 0) (add-zero (16 * a .i)))
 
 pub first-byte-spec : {M : Type 1} → statement M
-first-byte-spec = tie.close (tie.spec mul-a shared-slice-read-result returns)
+first-byte-spec = tie.close (tie.spec (λ c. search needs) (λ c. search needs) returns)

@@ -1,48 +1,35 @@
--- `cases_leaves::row::number` is safe and ends.
-use Prim.Native.Nat.{_-_}
+-- `cases_leaves::row::number` meets its contract.
+use Prim.Native.Nat.{_+_, _-_, _≤_}
+use mathlib.Core.Path.{_≡_, _∙_, ap}
+use native.Mathlib.Omega.{arith}
+use denote.Ref.{now}
 use borrow.Author.Needs.{needs}
+use Rattle.cases_leaves.specs.Rows.{digitOf, numberIn}
+use Rattle.cases_leaves.proofs.Parsed.{digit-turn, no-digit, number-start, number-end}
 use Rattle.cases_leaves.proofs.row.number.Statement.{statement}
 use Rattle.cases_leaves.proofs.row.number.Tie as tie
-use Rattle.cases_leaves.proofs.row.number.Reads as reads
-use Rattle.cases_leaves.proofs.row.number.Lts as lts
-use Rattle.cases_leaves.proofs.row.byte.Reads as byte-reads
-use Rattle.cases_leaves.proofs.row.digit.Reads as digit-reads
 
 abbrev Inv-loop : tie.InvT-loop
-Inv-loop line from to n₀ i₀ n i = Unit {0}
+Inv-loop line at count n₀ i₀ n i = (i ≤ count) × (numberIn line (at + i) (count - i) n ≡ numberIn line at count 0)
 
 abbrev μ-loop : tie.MeasureT-loop
-μ-loop line from to n₀ i₀ n i = to - i
+μ-loop line at count n₀ i₀ n i = count - i
 
 loop-holds : tie.Need-loop-holds Inv-loop μ-loop
-loop-holds c = search needs
-
-byte-requires : tie.Need-byte-requires Inv-loop μ-loop
-byte-requires c κs = search needs
-
-digit-requires : tie.Need-digit-requires Inv-loop μ-loop
-digit-requires c κs = search needs
+loop-holds c = (search needs, number-start _ _ _)
 
 returns : tie.Need-returns Inv-loop μ-loop
-returns c = search needs
-
-mul-n : tie.Need-mul-n Inv-loop μ-loop
-mul-n c = search needs
-
-add-n : tie.Need-add-n Inv-loop μ-loop
-add-n c = search needs
-
-add-i : tie.Need-add-i Inv-loop μ-loop
-add-i c = search needs
-
-loop-less : tie.Need-loop-less Inv-loop μ-loop
-loop-less c = search needs
+returns c =
+    let a = c .before .before .before .before .before .before .args in
+    no-digit (now (a .line)) (a .at) (c .before .before .before .before .loop .i) _ _ _ (c .before .digit .ensures .0 ∙ ap digitOf (c .before .before .byte .ensures)) (a .count) (omega arith) (c .if1 .taken) (c .before .before .before .before .loop .inv .1)
 
 loop-again : tie.Need-loop-again Inv-loop μ-loop
-loop-again c = search needs
+loop-again c =
+    let a = c .before .before .before .before .before .before .args in
+    (search needs, digit-turn (now (a .line)) (a .at) (c .before .before .before .before .loop .i) _ _ _ (c .before .digit .ensures .0 ∙ ap digitOf (c .before .before .byte .ensures)) (a .count) (omega arith) (c .if1 .left) (c .before .before .before .before .loop .inv .1))
 
 returns-2 : tie.Need-returns-2 Inv-loop μ-loop
-returns-2 c = search needs
+returns-2 c = number-end _ _ (c .before .loop .i) _ (c .before .before .before .args .count) _ (omega arith) (c .before .loop .inv .1)
 
 pub number-spec : {M : Type 1} → statement M
 number-spec =
@@ -51,12 +38,13 @@ number-spec =
     Inv-loop
     μ-loop
     loop-holds
-    byte-requires
-    digit-requires
+    (λ c. search needs)
+    (λ c κs. search needs)
+    (λ c κs. search needs)
     returns
-    mul-n
-    add-n
-    add-i
-    loop-less
+    (λ c. search needs)
+    (λ c. search needs)
+    (λ c. search needs)
+    (λ c. search needs)
     loop-again
     returns-2)

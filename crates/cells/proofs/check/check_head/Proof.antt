@@ -10,36 +10,21 @@ use Rattle.cells.proofs.check.check_head.Statement.{statement}
 use Rattle.cells.proofs.check.check_head.Tie as tie
 use Rattle.cells.proofs.check.check_head.Reads as reads
 use Rattle.cells.proofs.check.check_head.Lts as lts
-use Rattle.cells.proofs.check.operands_ok.Reads as operands-ok-reads
+use Rattle.cells.proofs.check.zeros_from.Reads as zeros-from-reads
 use Rattle.cells.proofs.check.unless.Reads as unless-reads
 use Rattle.cells.proofs.read.half.Reads as half-reads
 
--- src/check.rt:141:9
-half-requires : tie.Need-half-requires
-half-requires c κs = search needs
-
--- src/check.rt:142:9
-half-requires-2 : tie.Need-half-requires-2
-half-requires-2 c κs = search needs
-
--- src/check.rt:143:8
-shared-slice-read-if1 : tie.Need-shared-slice-read-if1
-shared-slice-read-if1 c = search needs
-
--- src/check.rt:144:9
 returns : tie.Need-returns
 returns c =
     let a = c .before .before .before .before .before .args in
     head-first (a .position) (a .at) (now (a .c)) (a .after) (c .if1 .taken)
 
--- src/check.rt:147:9
 returns-2 : tie.Need-returns-2
 returns-2 c =
     let a = c .before .before .before .before .before .before .args in
     let h : maxInstructions < codeCount (now (a .c)) = omega arith in
     head-code (a .position) (a .at) (now (a .c)) (a .after) (c .before .if1 .left) h
 
--- src/check.rt:150:9
 returns-3 : tie.Need-returns-3
 returns-3 c =
     let a = c .before .before .before .before .before .before .before .args in
@@ -47,11 +32,6 @@ returns-3 c =
     let k : maxEvents < eventCount (now (a .c)) = omega arith in
     head-events (a .position) (a .at) (now (a .c)) (a .after) (c .before .before .if1 .left) h k
 
--- src/check.rt:152:16
-add-if4 : tie.Need-add-if4
-add-if4 c = search needs
-
--- src/check.rt:153:9
 returns-4 : tie.Need-returns-4
 returns-4 c =
     let a = c .before .before .before .before .before .before .before .before .args in
@@ -60,35 +40,26 @@ returns-4 c =
     let l : a .after < codeCount (now (a .c)) + eventCount (now (a .c)) = omega arith in
     head-past (a .position) (a .at) (now (a .c)) (a .after) (c .before .before .before .if1 .left) h k l
 
--- src/check.rt:155:12
-operands-ok-requires : tie.Need-operands-ok-requires
-operands-ok-requires c κs = search needs
-
--- src/check.rt:155:5
-unless-requires : tie.Need-unless-requires
-unless-requires c κs = search needs
-
--- src/check.rt:137:1
 returns-5 : tie.Need-returns-5
 returns-5 c =
     let a = c .before .before .before .before .before .before .before .before .before .before .args in
     let h : codeCount (now (a .c)) ≤ maxInstructions = omega arith in
     let k : eventCount (now (a .c)) ≤ maxEvents = omega arith in
     let l : codeCount (now (a .c)) + eventCount (now (a .c)) ≤ a .after = omega arith in
-    c .unless .ensures ∙ head-row (a .position) (a .at) (now (a .c)) (a .after) (c .before .before .before .before .before .if1 .left) _ h k l (c .before .operands-ok .ensures)
+    c .unless .ensures ∙ head-row (a .position) (a .at) (now (a .c)) (a .after) (c .before .before .before .before .before .if1 .left) _ h k l (c .before .zeros-from .ensures)
 
 pub check-head-spec : {M : Type 1} → statement M
 check-head-spec =
     tie.close
     (tie.spec
-    half-requires
-    half-requires-2
-    shared-slice-read-if1
+    (λ c κs. search needs)
+    (λ c κs. search needs)
+    (λ c. search needs)
     returns
     returns-2
     returns-3
-    add-if4
+    (λ c. search needs)
     returns-4
-    operands-ok-requires
-    unless-requires
+    (λ c κs. search needs)
+    (λ c κs. search needs)
     returns-5)

@@ -15,37 +15,18 @@ use Rattle.cells.proofs.check.operands_ok.Reads as operands-ok-reads
 use Rattle.cells.proofs.check.unless.Reads as unless-reads
 use Rattle.cells.proofs.read.wide.Reads as wide-reads
 
--- src/check.rt:115:30
-shared-slice-read-wide : tie.Need-shared-slice-read-wide
-shared-slice-read-wide c = search needs
-
--- src/check.rt:115:9
-wide-requires : tie.Need-wide-requires
-wide-requires c κs = search needs
-
--- src/check.rt:117:9
 returns : tie.Need-returns
 returns c =
     let a = c .before .before .before .before .args in
     let h : byte (now (a .c)) 0 ≡ 0 = omega arith in
     instruction-none (a .position) (a .at) (now (a .c)) h
 
--- src/check.rt:120:9
 returns-2 : tie.Need-returns-2
 returns-2 c =
     let a = c .before .before .before .before .before .args in
     let h : 81 < byte (now (a .c)) 0 = omega arith in
     instruction-many (a .position) (a .at) (now (a .c)) h
 
--- src/check.rt:122:12
-operands-ok-requires : tie.Need-operands-ok-requires
-operands-ok-requires c κs = search needs
-
--- src/check.rt:122:5
-unless-requires : tie.Need-unless-requires
-unless-requires c κs = search needs
-
--- src/check.rt:111:1
 returns-3 : tie.Need-returns-3
 returns-3 c =
     let a = c .before .before .before .before .before .before .before .args in
@@ -59,10 +40,10 @@ pub check-instruction-spec : {M : Type 1} → statement M
 check-instruction-spec =
     tie.close
     (tie.spec
-    shared-slice-read-wide
-    wide-requires
+    (λ c. search needs)
+    (λ c κs. search needs)
     returns
     returns-2
-    operands-ok-requires
-    unless-requires
+    (λ c κs. search needs)
+    (λ c κs. search needs)
     returns-3)

@@ -1,5 +1,5 @@
 -- `cells::check::operands_ok` meets its contract. The invariant of its loop: what is left of the number is the packed form of a row's end,
--- whose operands fit the cell from `at` on, and what that end says from `at` on is what the whole row says from 1 on.
+-- whose operands fit the rest of the cell, and what that end says of the rest is what the whole row says from byte 1 on.
 use mathlib.Core.Path.{_≡_, refl, ap, sym, _∙_, subst}
 use mathlib.Core.List.{List, [], _∷_}
 use mathlib.Core.Bool.{Bool, true, false, cond, _&&_}
@@ -10,7 +10,9 @@ use borrow.Author.Tests.{lt-ltb, le-ltb, not-true, not-false}
 use denote.Ref.{now}
 use lib.ListN.{length, drop}
 use Rattle.cells.specs.Bytes.{byte, zeros}
-use Rattle.cells.specs.Table.{rowAt, rowOf, total, packed, widthOf, kindOf}
+use Rattle.cells.specs.Table.{rowAt, rowOf, total, widthOf}
+use Rattle.cells.specs.RowNumbers.{packed}
+use Rattle.cells.specs.RowNumbers.{kindOf}
 use Rattle.cells.specs.Check.{operandOk, operandsOk}
 use Rattle.cells.specs.declared.table.Kind.{Kind}
 use Rattle.cells.proofs.Rows.{row-operands, packed-first, packed-rest, packed-some, row-fits}
@@ -65,33 +67,18 @@ Inv-loop c row left₀ at₀ left at = End c row left at
 abbrev μ-loop : tie.MeasureT-loop
 μ-loop c row left₀ at₀ left at = left
 
-row-at-requires : tie.Need-row-at-requires Inv-loop μ-loop
-row-at-requires c κs = omega arith
-
 loop-holds : tie.Need-loop-holds Inv-loop μ-loop
 loop-holds c =
     let p = c .before .before in
     record { ks = rowOf (p .args .row); is = ap (λ (n : ℕ). n / 16) (c .row-at .ensures) ∙ row-operands (rowAt (p .args .row)); fits = row-fits (p .args .row) (p .pre .1); says = refl }
-
-kind-of-requires : tie.Need-kind-of-requires Inv-loop μ-loop
-kind-of-requires c κs = tt
 
 -- what the turn finds, once its kind is known
 at-kind : (c : tie.After-kind-of Inv-loop μ-loop) → Turn (now (c .before .before .before .before .before .args .c)) (c .before .before .before .before .before .args .row)
     (c .before .before .loop .left) (c .before .before .loop .at) (c .kind-of .result)
 at-kind c = turn (c .before .before .loop .inv) (c .before .loop-test .taken) (c .kind-of .result) (c .kind-of .ensures)
 
-operand-ok-requires : tie.Need-operand-ok-requires Inv-loop μ-loop
-operand-ok-requires c κs = omega (arith, at-kind c .room, c .before .before .before .before .before .pre .0)
-
 returns : tie.Need-returns Inv-loop μ-loop
 returns c = sym (at-kind (c .before .before) .stop (sym (c .before .operand-ok .ensures) ∙ not-true _ (c .if1 .taken)))
-
-width-requires : tie.Need-width-requires Inv-loop μ-loop
-width-requires c κs = tt
-
-add-at : tie.Need-add-at Inv-loop μ-loop
-add-at c = omega (arith, at-kind (c .before .before .before) .room)
 
 loop-less : tie.Need-loop-less Inv-loop μ-loop
 loop-less c = omega arith
@@ -112,13 +99,13 @@ operands-ok-spec =
     (tie.spec
     Inv-loop
     μ-loop
-    row-at-requires
+    (λ c κs. omega arith)
     loop-holds
-    kind-of-requires
-    operand-ok-requires
+    (λ c κs. tt)
+    (λ c κs. omega (arith, at-kind c .room, c .before .before .before .before .before .pre .0))
     returns
-    width-requires
-    add-at
+    (λ c κs. tt)
+    (λ c. omega (arith, at-kind (c .before .before .before) .room))
     loop-less
     loop-again
     zeros-from-requires

@@ -3,16 +3,10 @@ use borrow.Author.Tests.{ne-eqb}
 use Rattle.cells.proofs.check.present.Statement.{statement}
 use Rattle.cells.proofs.check.present.Tie as tie
 
-returns : tie.Need-returns
-returns c = simp (c .match .keys1)
-
-returns-2 : tie.Need-returns-2
-returns-2 c = simp (c .match .keys2)
-
 returns-3 : tie.Need-returns-3
 returns-3 c =
     let r = c .match .rest in
     simp (ne-eqb _ _ (r .0 .1), ne-eqb _ _ (r .1))
 
 pub present-spec : {M : Type 1} → statement M
-present-spec = tie.close (tie.spec returns returns-2 returns-3)
+present-spec = tie.close (tie.spec (λ c. simp (c .match .keys1)) (λ c. simp (c .match .keys2)) returns-3)

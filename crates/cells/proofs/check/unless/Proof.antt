@@ -5,13 +5,5 @@ use Rattle.cells.proofs.check.unless.Tie as tie
 use Rattle.cells.proofs.check.unless.Reads as reads
 use Rattle.cells.proofs.check.unless.Lts as lts
 
--- src/check.rt:100:1
-returns : tie.Need-returns
-returns c = search needs
-
--- src/check.rt:100:1
-returns-2 : tie.Need-returns-2
-returns-2 c = simp (c .if1 .left)
-
 pub unless-spec : {M : Type 1} → statement M
-unless-spec = tie.close (tie.spec returns returns-2)
+unless-spec = tie.close (tie.spec (λ c. search needs) (λ c. simp (c .if1 .left)))

@@ -1,7 +1,7 @@
 -- `cells::table::class_of` meets its contract: the class is the lowest digit of the row's number.
 use mathlib.Core.Path.{ap, sym, _∙_}
 use Prim.Native.Nat.{ℕ, _%_}
-use Rattle.cells.specs.Table.{classAt}
+use Rattle.cells.specs.RowNumbers.{classAt}
 use Rattle.cells.proofs.Rows.{class-is, no-class}
 use borrow.Author.Needs.{needs}
 use Rattle.cells.proofs.table.class_of.Statement.{statement}
@@ -11,21 +11,8 @@ use Rattle.cells.proofs.table.class_of.Lts as lts
 use Rattle.cells.proofs.table.class_at.Reads as class-at-reads
 use Rattle.cells.proofs.table.row_at.Reads as row-at-reads
 
--- src/table.rt:144:18
-row-at-requires : tie.Need-row-at-requires
-row-at-requires c κs = search needs
-
--- src/table.rt:144:9
-class-at-requires : tie.Need-class-at-requires
-class-at-requires c κs = search needs
-
--- src/table.rt:139:1
 returns : tie.Need-returns
 returns c = c .class-at .ensures ∙ ap (λ (n : ℕ). classAt (n % 16)) (c .before .row-at .ensures) ∙ class-is (c .before .before .before .args .command)
 
--- src/table.rt:139:1
-returns-2 : tie.Need-returns-2
-returns-2 c = sym (no-class (c .before .args .command) (c .if1 .left))
-
 pub class-of-spec : {M : Type 1} → statement M
-class-of-spec = tie.close (tie.spec row-at-requires class-at-requires returns returns-2)
+class-of-spec = tie.close (tie.spec (λ c κs. search needs) (λ c κs. search needs) returns (λ c. sym (no-class (c .before .args .command) (c .if1 .left))))

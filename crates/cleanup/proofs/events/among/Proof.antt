@@ -13,8 +13,6 @@ use Rattle.cells.specs.Lists.{any}
 use borrow.Author.Needs.{needs}
 use Rattle.cleanup.proofs.events.among.Statement.{statement}
 use Rattle.cleanup.proofs.events.among.Tie as tie
-use Rattle.cleanup.proofs.events.among.Reads as reads
-use Rattle.cleanup.proofs.events.among.Lts as lts
 
 abbrev Inv-loop : tie.InvT-loop
 Inv-loop list n x i₀ i = (i ≤ n) × (any (λ (y : ℕ). eqb y x) (take i list) ≡ false)
@@ -22,23 +20,11 @@ Inv-loop list n x i₀ i = (i ≤ n) × (any (λ (y : ℕ). eqb y x) (take i lis
 abbrev μ-loop : tie.MeasureT-loop
 μ-loop list n x i₀ i = n - i
 
-enum-known-site : tie.Need-enum-known-site Inv-loop μ-loop
-enum-known-site c = search needs
-
-enum-told : tie.Need-enum-told Inv-loop μ-loop
-enum-told c = search needs
-
 returns : tie.Need-returns Inv-loop μ-loop
 returns c = simp (c .enum-told .given .1)
 
 loop-holds : tie.Need-loop-holds Inv-loop μ-loop
 loop-holds c = (omega arith, refl)
-
-mul-if1 : tie.Need-mul-if1 Inv-loop μ-loop
-mul-if1 c = search needs
-
-shared-slice-read-if1 : tie.Need-shared-slice-read-if1 Inv-loop μ-loop
-shared-slice-read-if1 c = search needs
 
 returns-2 : tie.Need-returns-2 Inv-loop μ-loop
 returns-2 c =
@@ -48,12 +34,6 @@ returns-2 c =
     let x = g .0 .0 in
     let e : eqb (getD (now (a .list)) (l .i) 0) x ≡ true = rw (c .if1 .taken) (eqb-self x) in
     sym (rw (g .1) (any-at (λ (y : ℕ). eqb y x) 0 (now (a .list)) (a .n) (l .i) (omega arith) (omega arith) e))
-
-add-i : tie.Need-add-i Inv-loop μ-loop
-add-i c = search needs
-
-loop-less : tie.Need-loop-less Inv-loop μ-loop
-loop-less c = search needs
 
 loop-again : tie.Need-loop-again Inv-loop μ-loop
 loop-again c =
@@ -75,14 +55,14 @@ among-spec =
     (tie.spec
     Inv-loop
     μ-loop
-    enum-known-site
-    enum-told
+    (λ c. search needs)
+    (λ c. search needs)
     returns
     loop-holds
-    mul-if1
-    shared-slice-read-if1
+    (λ c. search needs)
+    (λ c. search needs)
     returns-2
-    add-i
-    loop-less
+    (λ c. search needs)
+    (λ c. search needs)
     loop-again
     returns-3)

@@ -12,11 +12,6 @@ use Rattle.sites.specs.declared.Which.the-variants.{Activation, Write}
 use borrow.Author.Needs.{needs}
 use Rattle.cleanup.proofs.events.copy_spared.Statement.{statement}
 use Rattle.cleanup.proofs.events.copy_spared.Tie as tie
-use Rattle.cleanup.proofs.events.copy_spared.Reads as reads
-use Rattle.cleanup.proofs.events.copy_spared.Lts as lts
-use Rattle.cells.proofs.read.put_cell.Reads as put-cell-reads
-use Rattle.cleanup.proofs.events.among.Reads as among-reads
-use Rattle.sites.proofs.site_by.Reads as site-by-reads
 
 abbrev Inv-loop : tie.InvT-loop
 Inv-loop events activations a writes w out₀ n kept₀ i₀ out kept i = Sorting (spared (take a activations) (take w writes)) events out₀ out i kept
@@ -29,30 +24,6 @@ loop-holds c =
     let a = c .before .before .before .before .args in
     sorting-start (spared (take (a .a) (now (a .activations))) (take (a .w) (now (a .writes)))) (now (a .events)) (now (a .out))
 
-add-i : tie.Need-add-i Inv-loop μ-loop
-add-i c = search needs
-
-site-by-requires : tie.Need-site-by-requires Inv-loop μ-loop
-site-by-requires c κs = search needs
-
-among-requires : tie.Need-among-requires Inv-loop μ-loop
-among-requires c κs = search needs
-
-site-by-requires-2 : tie.Need-site-by-requires-2 Inv-loop μ-loop
-site-by-requires-2 c κs = search needs
-
-among-requires-2 : tie.Need-among-requires-2 Inv-loop μ-loop
-among-requires-2 c κs = search needs
-
-put-cell-requires : tie.Need-put-cell-requires Inv-loop μ-loop
-put-cell-requires c κs = search needs
-
-add-kept : tie.Need-add-kept Inv-loop μ-loop
-add-kept c = search needs
-
-loop-less : tie.Need-loop-less Inv-loop μ-loop
-loop-less c = search needs
-
 loop-again : tie.Need-loop-again Inv-loop μ-loop
 loop-again c =
     let l = c .before .before .before .before .before .before .before .before .before .before .loop in
@@ -63,9 +34,6 @@ loop-again c =
     (ap (among (take (a .a) (now (a .activations)))) (event-site s (l .i) Activation h (c .before .before .before .before .before .before .before .before .site-by .ensures)) ∙ sym (c .before .before .before .before .before .before .before .among .ensures))
     (ap (among (take (a .w) (now (a .writes)))) (event-site s (l .i) Write h (c .before .before .before .before .before .before .site-by2 .ensures)) ∙ sym (c .before .before .before .before .before .among2 .ensures)) in
     sorting-keep (l .inv) _ h (omega arith) (v ∙ c .before .before .before .before .if1 .taken) (c .before .before .put-cell .ensures)
-
-loop-less-2 : tie.Need-loop-less-2 Inv-loop μ-loop
-loop-less-2 c = search needs
 
 loop-again-2 : tie.Need-loop-again-2 Inv-loop μ-loop
 loop-again-2 c =
@@ -78,9 +46,6 @@ loop-again-2 c =
     (ap (among (take (a .w) (now (a .writes)))) (event-site s (l .i) Write h (c .before .before .site-by2 .ensures)) ∙ sym (c .before .among2 .ensures)) in
     sorting-drop (l .inv) h (v ∙ c .if1 .left)
 
-same-length : tie.Need-same-length Inv-loop μ-loop
-same-length c = search needs
-
 returns : tie.Need-returns Inv-loop μ-loop
 returns c = sorting-end (c .before .loop .inv) (omega arith)
 
@@ -91,16 +56,16 @@ copy-spared-spec =
     Inv-loop
     μ-loop
     loop-holds
-    add-i
-    site-by-requires
-    among-requires
-    site-by-requires-2
-    among-requires-2
-    put-cell-requires
-    add-kept
-    loop-less
+    (λ c. search needs)
+    (λ c κs. search needs)
+    (λ c κs. search needs)
+    (λ c κs. search needs)
+    (λ c κs. search needs)
+    (λ c κs. search needs)
+    (λ c. search needs)
+    (λ c. search needs)
     loop-again
-    loop-less-2
+    (λ c. search needs)
     loop-again-2
-    same-length
+    (λ c. search needs)
     returns)

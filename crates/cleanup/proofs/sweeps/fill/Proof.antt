@@ -3,14 +3,12 @@ use mathlib.Core.Path.{_≡_, sym, ap}
 use Prim.Native.Nat.{_-_}
 use native.Mathlib.Omega.{arith}
 use denote.Ref.{now}
-use Rattle.cleanup.proofs.Going.{Going, going-start, going-put, going-end}
+use Rattle.cells.proofs.Going.{Going, going-start, going-put, going-end}
 use Rattle.cleanup.proofs.Positions.{up-from-cons, up-from-none}
 use Rattle.cleanup.specs.Positions.{upFrom}
 use borrow.Author.Needs.{needs}
 use Rattle.cleanup.proofs.sweeps.fill.Statement.{statement}
 use Rattle.cleanup.proofs.sweeps.fill.Tie as tie
-use Rattle.cleanup.proofs.sweeps.fill.Reads as reads
-use Rattle.cleanup.proofs.sweeps.fill.Lts as lts
 
 abbrev Inv-loop : tie.InvT-loop
 Inv-loop list₀ n i₀ list i = Going list₀ n (upFrom 0 n) (upFrom i (n - i)) list i i
@@ -23,29 +21,11 @@ loop-holds c =
     let e : c .args .n - 0 ≡ c .args .n = omega arith in
     going-start (now (c .args .list)) (c .args .n) (ap (upFrom 0) (sym e))
 
-cast-list : tie.Need-cast-list Inv-loop μ-loop
-cast-list c = search needs
-
-mul-list : tie.Need-mul-list Inv-loop μ-loop
-mul-list c = search needs
-
-slice-write-list : tie.Need-slice-write-list Inv-loop μ-loop
-slice-write-list c = search needs
-
-add-i : tie.Need-add-i Inv-loop μ-loop
-add-i c = search needs
-
-loop-less : tie.Need-loop-less Inv-loop μ-loop
-loop-less c = search needs
-
 loop-again : tie.Need-loop-again Inv-loop μ-loop
 loop-again c =
     let l = c .before .loop in
     let a = c .before .before .args in
     going-put (l .inv) (l .i) (omega arith) (omega arith) (up-from-cons (a .n) (l .i) (omega arith))
-
-same-length : tie.Need-same-length Inv-loop μ-loop
-same-length c = search needs
 
 returns : tie.Need-returns Inv-loop μ-loop
 returns c =
@@ -59,11 +39,11 @@ fill-spec =
     Inv-loop
     μ-loop
     loop-holds
-    cast-list
-    mul-list
-    slice-write-list
-    add-i
-    loop-less
+    (λ c. search needs)
+    (λ c. search needs)
+    (λ c. search needs)
+    (λ c. search needs)
+    (λ c. search needs)
     loop-again
-    same-length
+    (λ c. search needs)
     returns)

@@ -7,20 +7,14 @@ use denote.Ref.{now}
 use lib.ListN.{length}
 use Rattle.cells.specs.Cells.{over}
 use Rattle.cells.specs.Ins.{labelOf}
-use Rattle.cleanup.proofs.Stages.{Stage, stage-start, stage-next, stage-listed, sub-dedupe, sub-reach, sub-sweep}
-use Rattle.cleanup.specs.Marks.{jumpOf, loadOf}
-use Rattle.cleanup.specs.Passes.{removeDuplicateConsecutiveLabels, removeUnreachableUntilLabel, removeNoopJumps, removeRedundantConsecutiveLoads}
+use Rattle.cleanup.proofs.Stages.{Stage, stage-start, stage-next, stage-listed}
+use Rattle.cleanup.proofs.Sweeping.{sub-dedupe, sub-reach, sub-sweep}
+use Rattle.cleanup.specs.Marks.{jumpOf, removableLoad}
+use Rattle.cleanup.specs.Sweeps.{removeDuplicateConsecutiveLabels, removeUnreachableUntilLabel, removeNoopJumps, removeRedundantConsecutiveLoads}
 use Rattle.cleanup.specs.Positions.{seeAt, every, left₁, left₂, left₃}
 use borrow.Author.Needs.{needs}
 use Rattle.cleanup.proofs.sweeps.survivors.Statement.{statement}
 use Rattle.cleanup.proofs.sweeps.survivors.Tie as tie
-use Rattle.cleanup.proofs.sweeps.survivors.Reads as reads
-use Rattle.cleanup.proofs.sweeps.survivors.Lts as lts
-use Rattle.cleanup.proofs.sweeps.fill.Reads as fill-reads
-use Rattle.cleanup.proofs.sweeps.remove_duplicate_consecutive_labels.Reads as remove-duplicate-consecutive-labels-reads
-use Rattle.cleanup.proofs.sweeps.remove_noop_jumps.Reads as remove-noop-jumps-reads
-use Rattle.cleanup.proofs.sweeps.remove_redundant_consecutive_loads.Reads as remove-redundant-consecutive-loads-reads
-use Rattle.cleanup.proofs.sweeps.remove_unreachable_until_label.Reads as remove-unreachable-until-label-reads
 
 -- the instruction part, and the list after each call
 abbrev code₁ : tie.After-fill → List ℕ
@@ -58,9 +52,6 @@ code₄ d = code₃ (d .before .before .before .before)
 stage₄ : (d : tie.After-remove-noop-jumps) → Stage (length (code₄ d) / 16) (list₃ (d .before .before .before .before)) (left₃ (code₄ d)) (d .remove-noop-jumps .last .1 .0) (d .remove-noop-jumps .result)
 stage₄ d = stage-next (stage₃ (d .before .before .before .before)) (removeNoopJumps (seeAt (code₄ d))) (sub-sweep (seeAt (code₄ d)) jumpOf labelOf) (d .remove-noop-jumps .ensures)
 
-fill-requires : tie.Need-fill-requires
-fill-requires c κs = search needs
-
 remove-duplicate-consecutive-labels-requires :
     tie.Need-remove-duplicate-consecutive-labels-requires
 remove-duplicate-consecutive-labels-requires c κs = stage-listed (stage₁ (c .before .before .before))
@@ -74,23 +65,20 @@ remove-noop-jumps-requires c κs = stage-listed (stage₃ (c .before .before .be
 remove-redundant-consecutive-loads-requires : tie.Need-remove-redundant-consecutive-loads-requires
 remove-redundant-consecutive-loads-requires c κs = stage-listed (stage₄ (c .before .before .before))
 
-same-length : tie.Need-same-length
-same-length c = search needs
-
 returns : tie.Need-returns
 returns c =
     let d = c .before .before .before .before .before .before in
-    let z = stage-next (stage₄ d) (removeRedundantConsecutiveLoads (seeAt (code₄ d))) (sub-sweep (seeAt (code₄ d)) loadOf loadOf) (c .before .before .remove-redundant-consecutive-loads .ensures) in
+    let z = stage-next (stage₄ d) (removeRedundantConsecutiveLoads (seeAt (code₄ d))) (sub-sweep (seeAt (code₄ d)) removableLoad removableLoad) (c .before .before .remove-redundant-consecutive-loads .ensures) in
     record { list = z .is; count = z .count }
 
 pub survivors-spec : {M : Type 1} → statement M
 survivors-spec =
     tie.close
     (tie.spec
-    fill-requires
+    (λ c κs. search needs)
     remove-duplicate-consecutive-labels-requires
     remove-unreachable-until-label-requires
     remove-noop-jumps-requires
     remove-redundant-consecutive-loads-requires
-    same-length
+    (λ c. search needs)
     returns)

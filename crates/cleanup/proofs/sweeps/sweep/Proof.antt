@@ -1,110 +1,94 @@
 -- `cleanup::sweeps::sweep` meets its contract.
-use mathlib.Core.Path.{sym, _∙_, ap, ap₂}
-use Prim.Native.Nat.{ℕ, _+_, _-_, _≤_, _<_}
+use mathlib.Core.Path.{_≡_, sym, _∙_, ap}
+use mathlib.Core.Option.{none}
+use mathlib.Core.List.{List}
+use Prim.Native.Nat.{ℕ, _+_, _-_, _/_, _<_}
 use native.Mathlib.Omega.{arith}
 use borrow.Author.Tests.{not-true, not-false}
 use denote.Ref.{now}
 use lib.ListN.{length, take}
-use Rattle.cells.specs.Ins.{alike}
-use Rattle.cleanup.proofs.Going.{Going, rest, rest-all, rest-none, going-start, going-value, going-rest, going-below, going-here, going-keep, going-drop, going-end}
-use Rattle.cleanup.proofs.Turns.{sweep-keep, sweep-drop}
-use Rattle.cleanup.specs.Passes.{sweep, next}
+use Rattle.cells.specs.Spans.{part}
+use Rattle.cells.proofs.Going.{Going, going-start, going-drop, going-end}
+use Rattle.cells.proofs.Lists.{all-first, part-all, part-none}
+use Rattle.cleanup.proofs.Marking.{read-at, by-kind}
+use Rattle.cleanup.proofs.Turns.{going-part, going-below, going-keep, turn-keep, turn-drop}
+use Rattle.cleanup.specs.ByKind.{sweepBy, seenNext, staysBy}
 use Rattle.cleanup.specs.Positions.{seeAt}
-use Rattle.cleanup.specs.Reading.{markOf}
+use Rattle.cleanup.specs.Reading.{keyOf, seenAt}
+use Rattle.cleanup.specs.declared.marks.Seen.{Seen}
 use borrow.Author.Needs.{needs}
 use Rattle.cleanup.proofs.sweeps.sweep.Statement.{statement}
 use Rattle.cleanup.proofs.sweeps.sweep.Tie as tie
-use Rattle.cleanup.proofs.sweeps.sweep.Reads as reads
-use Rattle.cleanup.proofs.sweeps.sweep.Lts as lts
-use Rattle.cleanup.proofs.marks.alike.Reads as alike-reads
-use Rattle.cleanup.proofs.marks.mark_at.Reads as mark-at-reads
-use Rattle.cleanup.proofs.sweeps.next_mark.Reads as next-mark-reads
-use Rattle.cleanup.proofs.sweeps.position.Reads as position-reads
 
 abbrev Inv-loop : tie.InvT-loop
-Inv-loop code list₀ n f g kept₀ i₀ list kept i = Going list₀ n (sweep (seeAt code) (markOf f) (markOf g) (take n list₀)) (sweep (seeAt code) (markOf f) (markOf g) (rest list₀ n i)) list i kept
+Inv-loop code list₀ n kind kept₀ state₀ i₀ next₀ list kept state i next =
+    Going list₀ n (sweepBy (seeAt code) kind (take n list₀)) (staysBy (seenAt code) kind (keyOf state) (part list₀ i n)) list i kept × (next ≡ seenNext (seenAt code) (part list₀ i n))
 
 abbrev μ-loop : tie.MeasureT-loop
-μ-loop code list₀ n f g kept₀ i₀ list kept i = n - i
+μ-loop code list₀ n kind kept₀ state₀ i₀ next₀ list kept state i next = n - i
+
+abbrev start : tie.At-loop Inv-loop μ-loop → tie.Start Inv-loop μ-loop
+start l = l .before .before .before .before .before
+
+-- a turn, in which the next cell was read
+module _ (r : tie.After-seen-next2 Inv-loop μ-loop) where
+  abbrev turn : tie.At-loop Inv-loop μ-loop
+  turn = r .before .before .before .before
+
+  abbrev seen : ℕ → Seen
+  seen = seenAt (now (start turn .args .code))
+
+  abbrev list : List ℕ
+  list = now (start turn .args .list)
+
+  inside : turn .loop .i < start turn .args .n
+  inside = omega (arith, r .before .before .before .loop-test .taken)
+
+  next-is : r .seen-next2 .result ≡ seenNext seen (part list (turn .loop .i + 1) (start turn .args .n))
+  next-is = r .seen-next2 .ensures ∙ ap (seenNext seen) (going-part (turn .loop .inv .0) (turn .loop .i + 1) (omega arith))
+
+seen-next-requires : tie.Need-seen-next-requires Inv-loop μ-loop
+seen-next-requires c κs =
+    let q = c .before .before .before in
+    (q .pre .room, λ h. all-first (λ (k : ℕ). k < length (now (q .args .code)) / 16) 0 (q .args .n) (now (q .args .list)) 0 (q .pre .below) h (q .pre .room))
 
 loop-holds : tie.Need-loop-holds Inv-loop μ-loop
 loop-holds c =
-    let a = c .before .before .args in
-    going-start (now (a .list)) (a .n) (ap (sweep (seeAt (now (a .code))) (markOf (a .f)) (markOf (a .g))) (sym (rest-all (now (a .list)) (a .n))))
+    let a = c .before .before .before .before .args in
+    let code = now (a .code) in (
+      going-start (now (a .list)) (a .n) (sym (by-kind (seeAt code) (seenAt code) (read-at code) (a .kind) (take (a .n) (now (a .list)))) ∙ ap (staysBy (seenAt code) (a .kind) none) (sym (part-all (now (a .list)) (a .n)))),
+      c .seen-next .ensures,
+    )
 
-mul-p : tie.Need-mul-p Inv-loop μ-loop
-mul-p c = search needs
-
-slice-read-p : tie.Need-slice-read-p Inv-loop μ-loop
-slice-read-p c = search needs
-
-add-i : tie.Need-add-i Inv-loop μ-loop
-add-i c = search needs
-
-position-requires : tie.Need-position-requires Inv-loop μ-loop
-position-requires c κs = search needs
-
-mark-at-requires : tie.Need-mark-at-requires Inv-loop μ-loop
-mark-at-requires c κs =
-    let p = c .before .before .before .before .before .before .pre in
-    going-here (c .before .before .before .loop .inv) (c .position .ensures .0) (p .below) (p .room) (omega arith)
-
-next-mark-requires : tie.Need-next-mark-requires Inv-loop μ-loop
-next-mark-requires c κs =
-    let l = c .before .before .before .before .before .loop in
-    let p = c .before .before .before .before .before .before .before .before .pre in
-    (omega arith, λ h. going-below (l .inv) (l .i + 1) (p .below) (p .room) (omega arith) h)
-
-alike-requires : tie.Need-alike-requires Inv-loop μ-loop
-alike-requires c κs = search needs
-
-mul-list : tie.Need-mul-list Inv-loop μ-loop
-mul-list c = search needs
-
-slice-write-list : tie.Need-slice-write-list Inv-loop μ-loop
-slice-write-list c = search needs
-
-add-kept : tie.Need-add-kept Inv-loop μ-loop
-add-kept c = search needs
-
-loop-less : tie.Need-loop-less Inv-loop μ-loop
-loop-less c = search needs
+seen-next-requires-2 : tie.Need-seen-next-requires-2 Inv-loop μ-loop
+seen-next-requires-2 c κs =
+    let l = c .before .before .before in
+    let p = start l .pre in
+    (omega (arith, p .room), λ h. going-below (l .loop .inv .0) (l .loop .i + 1) (p .below) (p .room) (omega arith) h)
 
 loop-again : tie.Need-loop-again Inv-loop μ-loop
 loop-again c =
-    let l = c .before .before .before .before .before .before .before .before .loop in
-    let a = c .before .before .before .before .before .before .before .before .before .before .before .args in
-    let s = now (a .code) in
-    let r : a .n ≤ length (now (a .list)) = c .before .before .before .before .before .before .before .before .before .before .before .pre .room in
-    let h : l .i < a .n = omega arith in
-    let w = going-value (l .inv) (λ (k : ℕ). markOf (a .f) (seeAt s k)) (c .before .before .before .before .before .position .ensures .0) (c .before .before .before .before .mark-at .ensures) in
-    let x = c .before .before .next-mark .ensures ∙ ap (next (seeAt s) (markOf (a .g))) (going-rest (l .inv) (l .i + 1) (omega arith)) in
-    let t = sym (c .before .alike .ensures ∙ ap₂ alike (sym w) x) in
-    going-keep (l .inv) r h (sweep-keep (seeAt s) (now (a .list)) (a .n) r (markOf (a .f)) (markOf (a .g)) (l .i) h (t ∙ not-true _ (c .if1 .taken)))
-
-loop-less-2 : tie.Need-loop-less-2 Inv-loop μ-loop
-loop-less-2 c = search needs
+    let g = c .before .before in
+    let r = g .before in
+    let l = turn r in
+    let q = start l in
+    let stays = sym (g .goes .ensures) ∙ not-true _ (c .before .if1 .taken) in
+    (going-keep (l .loop .inv .0) (q .pre .room) (inside r) (turn-keep (seen r) (q .args .kind) (list r) (q .args .n) (q .pre .room) (keyOf (l .loop .state)) (inside r) (l .loop .inv .1) (next-is r) stays (c .remember .ensures)), next-is r)
 
 loop-again-2 : tie.Need-loop-again-2 Inv-loop μ-loop
 loop-again-2 c =
-    let l = c .before .before .before .before .before .before .before .before .loop in
-    let a = c .before .before .before .before .before .before .before .before .before .before .before .args in
-    let s = now (a .code) in
-    let r : a .n ≤ length (now (a .list)) = c .before .before .before .before .before .before .before .before .before .before .before .pre .room in
-    let h : l .i < a .n = omega arith in
-    let w = going-value (l .inv) (λ (k : ℕ). markOf (a .f) (seeAt s k)) (c .before .before .before .before .before .position .ensures .0) (c .before .before .before .before .mark-at .ensures) in
-    let x = c .before .before .next-mark .ensures ∙ ap (next (seeAt s) (markOf (a .g))) (going-rest (l .inv) (l .i + 1) (omega arith)) in
-    let t = sym (c .before .alike .ensures ∙ ap₂ alike (sym w) x) in
-    going-drop (l .inv) h (sweep-drop (seeAt s) (now (a .list)) (a .n) r (markOf (a .f)) (markOf (a .g)) (l .i) h (t ∙ not-false _ (c .if1 .left)))
-
-same-length : tie.Need-same-length Inv-loop μ-loop
-same-length c = search needs
+    let g = c .before in
+    let r = g .before in
+    let l = turn r in
+    let q = start l in
+    let goes = sym (g .goes .ensures) ∙ not-false _ (c .if1 .left) in
+    (going-drop (l .loop .inv .0) (inside r) (turn-drop (seen r) (q .args .kind) (list r) (q .args .n) (q .pre .room) (keyOf (l .loop .state)) (inside r) (l .loop .inv .1) (next-is r) goes), next-is r)
 
 returns : tie.Need-returns Inv-loop μ-loop
 returns c =
-    let l = c .before .loop in
-    let a = c .before .before .before .before .args in
-    going-end (l .inv) (ap (sweep (seeAt (now (a .code))) (markOf (a .f)) (markOf (a .g))) (rest-none (now (a .list)) (a .n) (l .i) (omega arith)))
+    let l = c .before in
+    let a = start l .args in
+    going-end (l .loop .inv .0) (ap (staysBy (seenAt (now (a .code))) (a .kind) (keyOf (l .loop .state))) (part-none (now (a .list)) (l .loop .i) (a .n) (omega arith)))
 
 pub sweep-spec : {M : Type 1} → statement M
 sweep-spec =
@@ -112,20 +96,20 @@ sweep-spec =
     (tie.spec
     Inv-loop
     μ-loop
+    seen-next-requires
     loop-holds
-    mul-p
-    slice-read-p
-    add-i
-    position-requires
-    mark-at-requires
-    next-mark-requires
-    alike-requires
-    mul-list
-    slice-write-list
-    add-kept
-    loop-less
+    (λ c. search needs)
+    (λ c. search needs)
+    (λ c. search needs)
+    seen-next-requires-2
+    (λ c κs. search needs)
+    (λ c. search needs)
+    (λ c. search needs)
+    (λ c. search needs)
+    (λ c κs. search needs)
+    (λ c. search needs)
     loop-again
-    loop-less-2
+    (λ c. search needs)
     loop-again-2
-    same-length
+    (λ c. search needs)
     returns)

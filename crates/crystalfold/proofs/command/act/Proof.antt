@@ -1,16 +1,12 @@
--- `command::act` meets its contract. Assumes nothing.
+-- `command::act` meets its contract.
 use native.Mathlib.Omega.{arith}
 use borrow.Author.Tests.{le-leb, lt-leb}
 use Rattle.crystalfold.proofs.command.act.Statement.{statement}
 use Rattle.crystalfold.proofs.command.act.Tie as tie
-use Rattle.crystalfold.proofs.command.act.Reads as reads
-use Rattle.crystalfold.proofs.command.act.Lts as lts
 
--- src/command.rt:71:1
 returns : tie.Need-returns
 returns c = simp (le-leb (c .before .args .op) 16 (omega arith))
 
--- src/command.rt:71:1
 returns-2 : tie.Need-returns-2
 returns-2 c = simp (lt-leb (c .before .args .op) 16 (omega arith))
 

@@ -1,15 +1,11 @@
--- `command::optional_dst` meets its contract. Assumes nothing.
+-- `command::optional_dst` meets its contract.
 use borrow.Author.Tests.{ne-eqb}
 use Rattle.crystalfold.proofs.command.optional_dst.Statement.{statement}
 use Rattle.crystalfold.proofs.command.optional_dst.Tie as tie
-use Rattle.crystalfold.proofs.command.optional_dst.Reads as reads
-use Rattle.crystalfold.proofs.command.optional_dst.Lts as lts
 
--- src/command.rt:82:1
 returns : tie.Need-returns
 returns c = simp (c .if1 .taken)
 
--- src/command.rt:82:1
 returns-2 : tie.Need-returns-2
 returns-2 c = simp (ne-eqb _ _ (c .if1 .left))
 

@@ -25,78 +25,33 @@ Inv-loop part p position first n i₀ i = (i ≤ n) × (cellsAnswer p position f
 abbrev μ-loop : tie.MeasureT-loop
 μ-loop part p position first n i₀ i = n - i
 
--- src/check.rt:71:5
 loop-holds : tie.Need-loop-holds Inv-loop μ-loop
 loop-holds c = (omega arith, rw add-zero)
 
--- src/check.rt:72:17
-mul-a : tie.Need-mul-a Inv-loop μ-loop
-mul-a c = search needs
+-- once a cell is checked: the loop, the start
+abbrev turn : tie.After-check-cell Inv-loop μ-loop → tie.At-loop Inv-loop μ-loop
+turn c = c .before .before .before
 
--- src/check.rt:73:17
-add-e : tie.Need-add-e Inv-loop μ-loop
-add-e c = search needs
+abbrev start : tie.After-check-cell Inv-loop μ-loop → tie.Start Inv-loop μ-loop
+start c = turn c .before .before
 
--- src/check.rt:74:31
-sub-check-cell : tie.Need-sub-check-cell Inv-loop μ-loop
-sub-check-cell c = search needs
-
--- src/check.rt:74:31
-part-check-cell-start : tie.Need-part-check-cell-start Inv-loop μ-loop
-part-check-cell-start c = search needs
-
--- src/check.rt:74:31
-part-check-cell-end : tie.Need-part-check-cell-end Inv-loop μ-loop
-part-check-cell-end c = search needs
-
--- src/check.rt:74:54
-add-check-cell : tie.Need-add-check-cell Inv-loop μ-loop
-add-check-cell c = search needs
-
--- src/check.rt:74:13
-check-cell-requires : tie.Need-check-cell-requires Inv-loop μ-loop
-check-cell-requires c κs = search needs
-
-enum-told : tie.Need-enum-told Inv-loop μ-loop
-enum-told c = search needs
-
--- src/check.rt:76:13
-enum-told-2 : tie.Need-enum-told-2 Inv-loop μ-loop
-enum-told-2 c = search needs
-
--- what the turn says: the answer at i, or what is left says it
-turned : (c : tie.After-check-cell Inv-loop μ-loop)
-    → cellsAnswer (c .before .before .before .before .before .args .p) (c .before .before .before .before .before .args .position) (c .before .before .before .before .before .args .first) (cells (now (c .before .before .before .before .before .args .part)))
-    ≡ orElse (c .check-cell .result) (cellsAnswer (c .before .before .before .before .before .args .p) (c .before .before .before .before .before .args .position) (c .before .before .before .before .before .args .first + (c .before .before .before .loop .i + 1)) (drop (c .before .before .before .loop .i + 1) (cells (now (c .before .before .before .before .before .args .part)))))
+-- the answer at i, or what is left says it
+turned : (c : tie.After-check-cell Inv-loop μ-loop) → let a = start c .args in let i = turn c .loop .i in
+    cellsAnswer (a .p) (a .position) (a .first) (cells (now (a .part))) ≡ orElse (c .check-cell .result) (cellsAnswer (a .p) (a .position) (a .first + (i + 1)) (drop (i + 1) (cells (now (a .part)))))
 turned c =
-    let l = c .before .before .before in
-    let a = c .before .before .before .before .before .args in
+    let a = start c .args in
     let s = now (a .part) in
-    let i = l .loop .i in
+    let i = turn c .loop .i in
     let h : i < length s / 16 = c .before .before .loop-test .taken in
     let hc : i < length (cells s) = omega (arith, length-cells s) in
     let room : 16 * i + 16 ≤ length s = omega arith in
     cells-turn (a .p) (a .position) (a .first) (cells s) i hc
     (c .check-cell .ensures ∙ ap (cellCheck (a .p) (a .position) (a .first + i)) (part-cell s (16 * i) (16 * i + 16) i refl refl room))
-    (l .loop .inv .1)
+    (turn c .loop .inv .1)
 
--- src/check.rt:76:13
-returns : tie.Need-returns Inv-loop μ-loop
-returns c = sym (turned (c .before .before) ∙ or-refused _ (c .enum-told2 .given .1))
-
--- src/check.rt:78:9
-add-i : tie.Need-add-i Inv-loop μ-loop
-add-i c = search needs
-
--- src/check.rt:71:5
-loop-less : tie.Need-loop-less Inv-loop μ-loop
-loop-less c = search needs
-
--- src/check.rt:71:5
 loop-again : tie.Need-loop-again Inv-loop μ-loop
 loop-again c = (omega arith, turned (c .before .before) ∙ or-good _ (c .enum-told .given .1))
 
--- src/check.rt:65:1
 returns-2 : tie.Need-returns-2 Inv-loop μ-loop
 returns-2 c =
     let l = c .before in
@@ -111,17 +66,17 @@ check-cells-spec =
     Inv-loop
     μ-loop
     loop-holds
-    mul-a
-    add-e
-    sub-check-cell
-    part-check-cell-start
-    part-check-cell-end
-    add-check-cell
-    check-cell-requires
-    enum-told
-    enum-told-2
-    returns
-    add-i
-    loop-less
+    (λ c. search needs)
+    (λ c. search needs)
+    (λ c. search needs)
+    (λ c. search needs)
+    (λ c. search needs)
+    (λ c. search needs)
+    (λ c κs. search needs)
+    (λ c. search needs)
+    (λ c. search needs)
+    (λ c. sym (turned (c .before .before) ∙ or-refused _ (c .enum-told2 .given .1)))
+    (λ c. search needs)
+    (λ c. search needs)
     loop-again
     returns-2)

@@ -1,4 +1,4 @@
--- `compare::eq_f64` meets its contract. Assumes nothing.
+-- `compare::eq_f64` meets its contract.
 use mathlib.Core.Path.{refl}
 use Rattle.leaves.proofs.compare.eq_f64.Statement.{statement}
 use Rattle.leaves.proofs.compare.eq_f64.Tie as tie

@@ -1,4 +1,4 @@
--- `compare::eq_i32` meets its contract. Assumes nothing.
+-- `compare::eq_i32` meets its contract.
 use Rattle.leaves.proofs.Ranges.{same-bits}
 use Rattle.leaves.proofs.compare.eq_i32.Statement.{statement}
 use Rattle.leaves.proofs.compare.eq_i32.Tie as tie

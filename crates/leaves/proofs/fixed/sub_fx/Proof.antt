@@ -1,34 +1,25 @@
--- `fixed::sub_fx` meets its contract: at 64 bits the difference is exact. Assumes nothing.
-use mathlib.Core.Path.{_∙_}
+-- `fixed::sub_fx` meets its contract: at 64 bits the difference is exact.
+use mathlib.Core.Path.{sym, subst, _∙_}
 use lib.IntN.{_-ℤ_}
+use mir.Syntax.{w64}
+use mir.Val.{SFits}
 use borrow.Author.Needs.{needs}
+use Rattle.leaves.specs.declared.constant.ConstVal.the-variants.{Fx}
 use Rattle.leaves.specs.Fixed.{subFx}
-use Rattle.leaves.proofs.Ranges.{difference-small, widened, checked}
+use Rattle.leaves.proofs.Ranges.{difference-small, at64, exact}
 use Rattle.leaves.proofs.fixed.sub_fx.Statement.{statement}
 use Rattle.leaves.proofs.fixed.sub_fx.Tie as tie
 
-wide-requires : tie.Need-wide-requires
-wide-requires c κs = search needs
-
-wide-requires-2 : tie.Need-wide-requires-2
-wide-requires-2 c κs = search needs
-
-checked-i32-requires : tie.Need-checked-i32-requires
-checked-i32-requires c κs = search needs
-
-sub-checked-i32 : tie.Need-sub-checked-i32
-sub-checked-i32 c =
-    let start = c .before .before in
-    simp (widened (start .fits .a) (c .before .wide .ensures), widened (start .fits .b) (c .wide2 .ensures))
-    (difference-small (start .args .a) (start .args .b) (start .fits .a) (start .fits .b))
+sub-checked-fx : tie.Need-sub-checked-fx
+sub-checked-fx c =
+    let fits = c .before .before .fits in
+    subst (SFits w64) (sym (at64 _-ℤ_ (fits .a) (fits .b) (c .before .wide .ensures) (c .wide2 .ensures))) (difference-small _ _ (fits .a) (fits .b))
 
 returns : tie.Need-returns
 unfolding subFx
 returns c =
-    let start = c .before .before .before in
-    c .checked-i32 .ensures
-    ∙ checked _ (start .args .a -ℤ start .args .b) (sub-checked-i32 (c .before))
-    (simp (widened (start .fits .a) (c .before .before .wide .ensures), widened (start .fits .b) (c .before .wide2 .ensures)))
+    let fits = c .before .before .before .fits in
+    c .checked-fx .ensures ∙ exact Fx _ _ (sub-checked-fx (c .before)) (at64 _-ℤ_ (fits .a) (fits .b) (c .before .before .wide .ensures) (c .before .wide2 .ensures))
 
 pub sub-fx-spec : {M : Type 1} → statement M
-sub-fx-spec = tie.close (tie.spec wide-requires wide-requires-2 sub-checked-i32 checked-i32-requires returns)
+sub-fx-spec = tie.close (tie.spec (λ c κs. search needs) (λ c κs. search needs) sub-checked-fx (λ c κs. search needs) returns)

@@ -1,4 +1,4 @@
--- `float::div_f64` meets its contract. Assumes nothing.
+-- `float::div_f64` meets its contract.
 use Rattle.leaves.specs.Float.{divF64}
 use lib.Ieee
 use Rattle.leaves.proofs.float.div_f64.Statement.{statement}

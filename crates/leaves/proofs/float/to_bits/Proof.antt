@@ -1,4 +1,4 @@
--- `float::to_bits` meets its contract. Assumes nothing.
+-- `float::to_bits` meets its contract.
 use mathlib.Core.Path.{refl, sym, ap}
 use lib.Ieee
 use Rattle.leaves.specs.Float.{bitsOf}

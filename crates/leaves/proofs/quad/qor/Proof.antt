@@ -1,23 +1,8 @@
--- `quad::qor` meets its contract. Assumes nothing.
+-- `quad::qor` meets its contract.
 use mathlib.Core.Path.{_∙_}
 use borrow.Author.Needs.{needs}
 use Rattle.leaves.proofs.quad.qor.Statement.{statement}
 use Rattle.leaves.proofs.quad.qor.Tie as tie
-
-told-false-requires : tie.Need-told-false-requires
-told-false-requires c κs = search needs
-
-told-false-requires-2 : tie.Need-told-false-requires-2
-told-false-requires-2 c κs = search needs
-
-told-true-requires : tie.Need-told-true-requires
-told-true-requires c κs = search needs
-
-told-true-requires-2 : tie.Need-told-true-requires-2
-told-true-requires-2 c κs = search needs
-
-of-told-requires : tie.Need-of-told-requires
-of-told-requires c κs = search needs
 
 returns : tie.Need-returns
 returns c =
@@ -28,9 +13,9 @@ pub qor-spec : {M : Type 1} → statement M
 qor-spec =
     tie.close
     (tie.spec
-    told-false-requires
-    told-false-requires-2
-    told-true-requires
-    told-true-requires-2
-    of-told-requires
+    (λ c κs. search needs)
+    (λ c κs. search needs)
+    (λ c κs. search needs)
+    (λ c κs. search needs)
+    (λ c κs. search needs)
     returns)

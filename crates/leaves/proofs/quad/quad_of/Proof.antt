@@ -1,4 +1,4 @@
--- `quad::quad_of` meets its contract. Assumes nothing.
+-- `quad::quad_of` meets its contract.
 use borrow.Author.Tests.{ne-eqb}
 use Rattle.leaves.specs.Quads.{quadOf}
 use Rattle.leaves.proofs.quad.quad_of.Statement.{statement}

@@ -1,4 +1,4 @@
--- `signed::add_i32` meets its contract: the bits of the sum are those that the operation on bits gives. Assumes nothing.
+-- `signed::add_i32` meets its contract: the bits of the sum are those that the operation on bits gives.
 use mathlib.Core.Path.{sym}
 use borrow.Author.Needs.{needs}
 use lib.IntN.{ℤ, _+ℤ_}
@@ -9,18 +9,6 @@ use Rattle.leaves.specs.Signed.{addI32}
 use Rattle.leaves.proofs.Integers.{residue-add, wrapped}
 use Rattle.leaves.proofs.signed.add_i32.Statement.{statement}
 use Rattle.leaves.proofs.signed.add_i32.Tie as tie
-
-bits-of-requires : tie.Need-bits-of-requires
-bits-of-requires c κs = search needs
-
-bits-of-requires-2 : tie.Need-bits-of-requires-2
-bits-of-requires-2 c κs = search needs
-
-wrapping-add-u32-requires : tie.Need-wrapping-add-u32-requires
-wrapping-add-u32-requires c κs = search needs
-
-of-bits-requires : tie.Need-of-bits-requires
-of-bits-requires c κs = search needs
 
 returns : tie.Need-returns
 unfolding addI32
@@ -35,4 +23,4 @@ returns c =
     (sym (residue-add a b h k)))
 
 pub add-i32-spec : {M : Type 1} → statement M
-add-i32-spec = tie.close (tie.spec bits-of-requires bits-of-requires-2 wrapping-add-u32-requires of-bits-requires returns)
+add-i32-spec = tie.close (tie.spec (λ c κs. search needs) (λ c κs. search needs) (λ c κs. search needs) (λ c κs. search needs) returns)

@@ -1,4 +1,4 @@
--- `signed::mul_i32` meets its contract: the bits of the product are those that the operation on bits gives. Assumes nothing.
+-- `signed::mul_i32` meets its contract: the bits of the product are those that the operation on bits gives.
 use mathlib.Core.Path.{sym}
 use borrow.Author.Needs.{needs}
 use lib.IntN.{ℤ, _*ℤ_}
@@ -9,18 +9,6 @@ use Rattle.leaves.specs.Signed.{mulI32}
 use Rattle.leaves.proofs.Integers.{residue-mul, wrapped}
 use Rattle.leaves.proofs.signed.mul_i32.Statement.{statement}
 use Rattle.leaves.proofs.signed.mul_i32.Tie as tie
-
-bits-of-requires : tie.Need-bits-of-requires
-bits-of-requires c κs = search needs
-
-bits-of-requires-2 : tie.Need-bits-of-requires-2
-bits-of-requires-2 c κs = search needs
-
-wrapping-mul-u32-requires : tie.Need-wrapping-mul-u32-requires
-wrapping-mul-u32-requires c κs = search needs
-
-of-bits-requires : tie.Need-of-bits-requires
-of-bits-requires c κs = search needs
 
 returns : tie.Need-returns
 unfolding mulI32
@@ -35,4 +23,4 @@ returns c =
     (sym (residue-mul a b h k)))
 
 pub mul-i32-spec : {M : Type 1} → statement M
-mul-i32-spec = tie.close (tie.spec bits-of-requires bits-of-requires-2 wrapping-mul-u32-requires of-bits-requires returns)
+mul-i32-spec = tie.close (tie.spec (λ c κs. search needs) (λ c κs. search needs) (λ c κs. search needs) (λ c κs. search needs) returns)

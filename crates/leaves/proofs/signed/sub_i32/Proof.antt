@@ -1,4 +1,4 @@
--- `signed::sub_i32` meets its contract: the bits of the difference are those that the operation on bits gives. Assumes nothing.
+-- `signed::sub_i32` meets its contract: the bits of the difference are those that the operation on bits gives.
 use Prim.Native.Nat.{ℕ, _+_, _%_}
 use mathlib.Core.Path.{_≡_, sym}
 use lib.IntN.{ℤ, _-ℤ_}
@@ -10,18 +10,6 @@ use Rattle.leaves.specs.Signed.{subI32}
 use Rattle.leaves.proofs.Integers.{residue-minus, wrapped}
 use Rattle.leaves.proofs.signed.sub_i32.Statement.{statement}
 use Rattle.leaves.proofs.signed.sub_i32.Tie as tie
-
-bits-of-requires : tie.Need-bits-of-requires
-bits-of-requires c κs = search needs
-
-bits-of-requires-2 : tie.Need-bits-of-requires-2
-bits-of-requires-2 c κs = search needs
-
-wrapping-sub-u32-requires : tie.Need-wrapping-sub-u32-requires
-wrapping-sub-u32-requires c κs = search needs
-
-of-bits-requires : tie.Need-of-bits-requires
-of-bits-requires c κs = search needs
 
 returns : tie.Need-returns
 unfolding subI32
@@ -37,4 +25,4 @@ returns c =
     wrapped _ (a -ℤ b) _ (c .of-bits .ok) (c .of-bits .ensures) (sym (residue-minus a b r h k (c .before .wrapping-sub-u32 .ok) e))
 
 pub sub-i32-spec : {M : Type 1} → statement M
-sub-i32-spec = tie.close (tie.spec bits-of-requires bits-of-requires-2 wrapping-sub-u32-requires of-bits-requires returns)
+sub-i32-spec = tie.close (tie.spec (λ c κs. search needs) (λ c κs. search needs) (λ c κs. search needs) (λ c κs. search needs) returns)

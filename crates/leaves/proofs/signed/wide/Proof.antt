@@ -1,4 +1,4 @@
--- `signed::wide` meets its contract. Assumes nothing.
+-- `signed::wide` meets its contract.
 use mir.Syntax.{w64}
 use mir.Val.{SFits}
 use mir.Facts.{toZ-ofZ, sfits-widen}

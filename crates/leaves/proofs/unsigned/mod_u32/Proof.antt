@@ -1,4 +1,4 @@
--- `unsigned::mod_u32` meets its contract. Assumes nothing.
+-- `unsigned::mod_u32` meets its contract.
 use Rattle.leaves.specs.Unsigned.{modU32}
 use borrow.Author.Tests.{eq-eqb, ne-eqb}
 use borrow.Author.Needs.{needs}
@@ -9,12 +9,9 @@ returns : tie.Need-returns
 unfolding modU32
 returns c = simp (eq-eqb _ _ (c .if1 .taken))
 
-rem-t4 : tie.Need-rem-t4
-rem-t4 c = search needs
-
 returns-2 : tie.Need-returns-2
 unfolding modU32
 returns-2 c = simp (ne-eqb _ _ (c .if1 .left))
 
 pub mod-u32-spec : {M : Type 1} → statement M
-mod-u32-spec = tie.close (tie.spec returns rem-t4 returns-2)
+mod-u32-spec = tie.close (tie.spec returns (λ c. search needs) returns-2)

@@ -1,4 +1,4 @@
--- `unsigned::mul_u32` meets its contract. Assumes nothing.
+-- `unsigned::mul_u32` meets its contract.
 use Rattle.leaves.specs.Unsigned.{mulU32}
 use borrow.Author.Tests.{lt-ltb, le-ltb}
 use Rattle.leaves.proofs.Product.{below}
@@ -9,9 +9,6 @@ use Rattle.leaves.proofs.unsigned.mul_u32.Tie as tie
 mul-wide : tie.Need-mul-wide
 mul-wide c = record { fits = below 32 (search needs) (search needs) }
 
-cast-t7 : tie.Need-cast-t7
-cast-t7 c = search needs
-
 returns : tie.Need-returns
 unfolding mulU32
 returns c = simp (lt-ltb _ _ (c .if1 .taken))
@@ -21,4 +18,4 @@ unfolding mulU32
 returns-2 c = simp (le-ltb _ _ (c .if1 .left))
 
 pub mul-u32-spec : {M : Type 1} → statement M
-mul-u32-spec = tie.close (tie.spec mul-wide cast-t7 returns returns-2)
+mul-u32-spec = tie.close (tie.spec mul-wide (λ c. search needs) returns returns-2)

@@ -1,4 +1,4 @@
--- `unsigned::sub_u32` meets its contract. Assumes nothing.
+-- `unsigned::sub_u32` meets its contract.
 use Rattle.leaves.specs.Unsigned.{subU32}
 use borrow.Author.Tests.{le-leb, lt-leb}
 use Rattle.leaves.proofs.unsigned.sub_u32.Statement.{statement}

@@ -1,78 +1,62 @@
 -- `sites::list::collect` meets its contract.
-use mathlib.Core.Path.{_≡_, refl, ap, sym, _∙_}
-use Prim.Native.Nat.{ℕ, _+_, _-_, _≤_, _<_}
+use mathlib.Core.Path.{_≡_, refl, sym, _∙_, ap}
+use mathlib.Core.List.{List, []}
+use Prim.Native.Nat.{ℕ, _+_, _-_, _/_, _≤_, _<_}
 use native.Mathlib.Omega.{arith}
-use borrow.Author.Needs.{needs}
 use denote.Ref.{now}
-use lib.ListN.{length, getD, length-set}
-use Rattle.cells.specs.Cells.{cells}
+use lib.ListN.{length, getD, drop, drop-of-length-le}
+use Rattle.cells.specs.Cells.{Cell, cells}
 use Rattle.cells.proofs.Cells.{length-cells}
-use Rattle.sites.specs.Numbered.{number, Listed}
-use Rattle.sites.proofs.Counted.{listed-none, listed-next}
+use Rattle.cells.proofs.Going.{Going, going-start, going-put, going-drop, going-end}
+use Rattle.cells.proofs.Spans.{drop-next}
+use Rattle.sites.specs.Sites.{siteBy, withSite, sitesOn}
+use Rattle.sites.specs.declared.Site.{Site}
+use borrow.Author.Needs.{needs}
 use Rattle.sites.proofs.list.collect.Statement.{statement}
 use Rattle.sites.proofs.list.collect.Tie as tie
-use Rattle.sites.proofs.list.collect.Reads as reads
-use Rattle.sites.proofs.list.collect.Lts as lts
-use Rattle.sites.proofs.list.least.Reads as least-reads
-use Rattle.sites.proofs.list.number.Reads as number-reads
-use Rattle.sites.proofs.site_by.Reads as site-by-reads
+
+-- a turn over the cells: what was read is the site on the one at i
+cells-turn : (s : List ℕ) (i : ℕ) → i < length s / 16 → (f : Cell → Site) {r t : Site} → r ≡ f (getD (cells s) i []) → r ≡ t → sitesOn f (drop i (cells s)) ≡ withSite t (sitesOn f (drop (i + 1) (cells s)))
+cells-turn s i h f e g =
+    let l : i < length (cells s) = omega (arith, length-cells s) in
+    ap (sitesOn f) (drop-next (cells s) i l) ∙ ap (λ (x : Site). withSite x (sitesOn f (drop (i + 1) (cells s)))) (sym e ∙ g)
+
+cells-end : (s : List ℕ) (i : ℕ) → length s / 16 ≤ i → length (cells s) ≤ i
+cells-end s i h = omega (arith, length-cells s)
 
 abbrev Inv-loop : tie.InvT-loop
-Inv-loop s p w list₀ n end i₀ list i = (i ≤ end) × (length list ≡ length list₀) × Listed p w (cells s) list i
+Inv-loop s p w list₀ n found₀ i₀ list found i = Going list₀ (length s / 16) (sitesOn (siteBy p w) (cells s)) (sitesOn (siteBy p w) (drop i (cells s))) list i found
 
 abbrev μ-loop : tie.MeasureT-loop
-μ-loop s p w list₀ n end i₀ list i = end - i
-
-least-requires : tie.Need-least-requires Inv-loop μ-loop
-least-requires c κs = search needs
+μ-loop s p w list₀ n found₀ i₀ list found i = n - i
 
 loop-holds : tie.Need-loop-holds Inv-loop μ-loop
 loop-holds c =
-    let a = c .before .before .before .args in
-    (omega arith, refl, listed-none (a .p) (a .w) (cells (now (a .s))) (now (a .list)))
+    let a = c .before .before .args in
+    going-start (now (a .list)) (length (now (a .s)) / 16) refl
 
--- src/list.rt:44:26
-site-by-requires : tie.Need-site-by-requires Inv-loop μ-loop
-site-by-requires c κs = search needs
-
--- src/list.rt:44:19
-number-requires : tie.Need-number-requires Inv-loop μ-loop
-number-requires c κs = search needs
-
--- src/list.rt:44:9
-mul-list : tie.Need-mul-list Inv-loop μ-loop
-mul-list c = search needs
-
--- src/list.rt:44:9
-slice-write-list : tie.Need-slice-write-list Inv-loop μ-loop
-slice-write-list c = search needs
-
--- src/list.rt:45:9
-add-i : tie.Need-add-i Inv-loop μ-loop
-add-i c = search needs
-
--- src/list.rt:43:5
-loop-less : tie.Need-loop-less Inv-loop μ-loop
-loop-less c = search needs
-
--- src/list.rt:43:5
 loop-again : tie.Need-loop-again Inv-loop μ-loop
 loop-again c =
-    let l = c .before .before .before in
-    let a = l .before .before .before .before .args in
+    let l = c .before .before .before .before .before .loop in
+    let a = c .before .before .before .before .before .before .before .before .args in
     let s = now (a .s) in
-    let i = l .loop .i in
-    let r : i < length (l .loop .list) = omega arith in
-    let h : i < length (cells s) = omega (arith, length-cells s) in
-    (omega arith, simp length-set (l .loop .inv .1), listed-next (c .number .result) (l .loop .inv .2) (omega arith) r h (c .number .ensures ∙ ap number (c .before .site-by .ensures)))
+    let h : l .i < length s / 16 = omega arith in
+    let g = c .before .site .given in
+    going-put (l .inv) (g .0 .0) (omega arith) h (cells-turn s (l .i) h (siteBy (a .p) (a .w)) (c .before .before .before .site-by .ensures) (g .1))
 
--- src/list.rt:35:1
-same-length : tie.Need-same-length Inv-loop μ-loop
-same-length c = search needs
+loop-again-2 : tie.Need-loop-again-2 Inv-loop μ-loop
+loop-again-2 c =
+    let l = c .before .before .before .before .loop in
+    let a = c .before .before .before .before .before .before .before .args in
+    let s = now (a .s) in
+    let h : l .i < length s / 16 = omega arith in
+    going-drop (l .inv) h (cells-turn s (l .i) h (siteBy (a .p) (a .w)) (c .before .before .site-by .ensures) (c .enum-told .given .1))
 
--- src/list.rt:35:1
 returns : tie.Need-returns Inv-loop μ-loop
-returns c = c .before .loop .inv .2
+returns c =
+    let l = c .before .loop in
+    let a = c .before .before .before .before .args in
+    going-end (l .inv) (ap (sitesOn (siteBy (a .p) (a .w))) (drop-of-length-le (cells (now (a .s))) (cells-end (now (a .s)) (l .i) (omega arith))))
 
 pub collect-spec : {M : Type 1} → statement M
 collect-spec =
@@ -80,14 +64,17 @@ collect-spec =
     (tie.spec
     Inv-loop
     μ-loop
-    least-requires
     loop-holds
-    site-by-requires
-    number-requires
-    mul-list
-    slice-write-list
-    add-i
-    loop-less
+    (λ c. search needs)
+    (λ c κs. search needs)
+    (λ c. search needs)
+    (λ c. search needs)
+    (λ c. search needs)
+    (λ c. search needs)
+    (λ c. search needs)
     loop-again
-    same-length
+    (λ c. search needs)
+    (λ c. search needs)
+    loop-again-2
+    (λ c. search needs)
     returns)

@@ -1,164 +1,169 @@
 -- `sites::repeats::check_repeat` meets its contract.
-use mathlib.Core.Path.{_≡_, refl, ap, ap₂, sym, _∙_, subst}
+use mathlib.Core.Path.{_≡_, refl, ap, sym, _∙_, subst}
 use mathlib.Core.Logic.{⊎-elim}
 use mathlib.Core.List.{List, []}
-use mathlib.Core.Bool.{Bool, true, false}
-use Prim.Native.Nat.{ℕ, _+_, _-_, _*_, _/_, _≤_, _<_}
+use mathlib.Core.Bool.{false}
+use Prim.Native.Nat.{ℕ, _+_, _-_, _≤_, _<_}
 use native.Mathlib.Nat.{le-antisymm}
 use native.Mathlib.Omega.{arith}
-use borrow.Author.Needs.{needs}
+use borrow.Author.Tests.{ne-eqb, eq-eqb}
 use denote.Ref.{now}
-use lib.ListN.{length, getD, take, drop}
+use lib.Dec.{eqb}
+use lib.ListN.{length, getD, take}
+use Rattle.cells.specs.Check.{maxInstructions}
 use Rattle.cells.specs.Cells.{Cell, cells}
+use Rattle.cells.specs.declared.refusal.Checked.{Checked}
 use Rattle.cells.specs.declared.refusal.Checked.the-variants.{Good, Refused}
+use Rattle.cells.specs.declared.refusal.Refusal.the-variants.{ActivationSiteOnWrite}
+use Rattle.cells.proofs.Answers.{Left, scan-passes, scan-refuses, scan-ends}
 use Rattle.cells.proofs.Cells.{length-cells}
 use Rattle.cells.proofs.Lists.{any-at, any-not}
-use Rattle.cells.proofs.Answers.{Left, scan-passes, scan-refuses, scan-ends}
-use Rattle.sites.specs.Sites.{siteBy, isSite, stands}
-use Rattle.sites.specs.Validators.{judgeCommand, repeatAnswer}
-use Rattle.sites.specs.declared.Part.the-variants.{Code}
-use Rattle.sites.proofs.Loops.{absent-passes, fresh-passes, repeat-refuses}
+use Rattle.sites.specs.Sites.{siteBy, stands, sitesOn}
+use Rattle.sites.specs.Numbered.{oneOf, repeatedOn, judgeRepeat, freshAnswer}
+use Rattle.sites.proofs.Counted.{sites-with, sites-without, listed-none, listed-few, listed-stands, search-within, search-none}
+use Rattle.sites.proofs.Loops.{none-passes, barred-refuses, fresh-passes, repeat-refuses, fresh-none}
+use borrow.Author.Needs.{needs}
 use Rattle.sites.proofs.repeats.check_repeat.Statement.{statement}
 use Rattle.sites.proofs.repeats.check_repeat.Tie as tie
-use Rattle.sites.proofs.repeats.check_repeat.Reads as reads
-use Rattle.sites.proofs.repeats.check_repeat.Lts as lts
-use Rattle.sites.proofs.list.reach.Reads as reach-reads
-use Rattle.sites.proofs.is_site.Reads as is-site-reads
-use Rattle.sites.proofs.repeats.repeated.Reads as repeated-reads
-use Rattle.sites.proofs.site_by.Reads as site-by-reads
 
 abbrev Inv-loop : tie.InvT-loop
-Inv-loop code numbers k w position n answer₀ i x end earlier₀ answer earlier = (answer ≡ Good) × (stands (siteBy Code w) x (take earlier (cells code)) ≡ false) × (earlier ≤ end)
+Inv-loop part p w sites n position answer₀ total met i x end earlier₀ answer earlier = (answer ≡ Good) × (earlier ≤ end) × (oneOf x (take earlier sites) ≡ false)
 
 abbrev μ-loop : tie.MeasureT-loop
-μ-loop code numbers k w position n answer₀ i x end earlier₀ answer earlier = end - earlier
+μ-loop part p w sites n position answer₀ total met i x end earlier₀ answer earlier = end - earlier
 
 abbrev Inv-sites : tie.InvT-sites
-Inv-sites code numbers k w position n answer₀ i₀ answer i = (answer ≡ Good) × (i ≤ n) × Left (judgeCommand w position) (cells code) (repeatAnswer w position (cells code)) i
+Inv-sites part p w sites n position answer₀ total met₀ i₀ answer met i =
+    (answer ≡ Good) × (i ≤ total) × (length (sitesOn (siteBy p w) (take i (cells part))) ≡ met) × Left (judgeRepeat p w position) (cells part) (freshAnswer p w position (cells part)) i
 
 abbrev μ-sites : tie.MeasureT-sites
-μ-sites code numbers k w position n answer₀ i₀ answer i = n - i
+μ-sites part p w sites n position answer₀ total met₀ i₀ answer met i = total - i
 
--- src/repeats.rt:29:5
-sites-holds : tie.Need-sites-holds Inv-loop μ-loop Inv-sites μ-sites
-unfolding repeatAnswer
-sites-holds c = (refl, omega arith, refl)
+-- a turn of the outer loop: the cell at i, with the sites met before it
+module _ (l : tie.At-sites Inv-loop μ-loop Inv-sites μ-sites) where
+  abbrev start : tie.Start Inv-loop μ-loop Inv-sites μ-sites
+  start = l .before .before .before .before
 
--- src/repeats.rt:30:13
-site-by-requires : tie.Need-site-by-requires Inv-loop μ-loop Inv-sites μ-sites
-site-by-requires c κs = search needs
+  abbrev cs : List Cell
+  cs = cells (now (start .args .part))
 
--- src/repeats.rt:31:25
-enum-known-s : tie.Need-enum-known-s Inv-loop μ-loop Inv-sites μ-sites
-enum-known-s c = search needs
+  abbrev cell : Cell
+  cell = getD cs (l .sites .i) []
 
-reach-requires : tie.Need-reach-requires Inv-loop μ-loop Inv-sites μ-sites
-reach-requires c κs =
-    let l = c .before .before .before .before .before in
-    (l .before .before .before .pre .room, l .before .before .before .pre .few)
+  abbrev judge : List Cell → Cell → Checked
+  judge = judgeRepeat (start .args .p) (start .args .w) (start .args .position)
 
--- src/repeats.rt:33:13
-loop-holds : tie.Need-loop-holds Inv-loop μ-loop Inv-sites μ-sites
-loop-holds c = (c .before .before .before .before .before .before .sites .inv .0, refl, omega arith)
+  -- they are among those listed
+  few : (l .sites .met ≤ length (now (start .args .sites))) × (l .sites .met ≤ maxInstructions)
+  few =
+      let k = listed-few (start .pre) (l .sites .i) (l .sites .met) (l .sites .inv .2) in
+      (omega (arith, k, start .pre .room), omega (arith, k, start .pre .few))
 
--- src/repeats.rt:34:35
-site-by-requires-2 : tie.Need-site-by-requires-2 Inv-loop μ-loop Inv-sites μ-sites
-site-by-requires-2 c κs = search needs
+  stood : (x : ℕ) → stands (siteBy (start .args .p) (start .args .w)) x (take (l .sites .i) cs) ≡ oneOf x (take (l .sites .met) (now (start .args .sites)))
+  stood = listed-stands (start .pre) (l .sites .i) (l .sites .met) (l .sites .inv .2)
 
--- src/repeats.rt:34:20
-is-site-requires : tie.Need-is-site-requires Inv-loop μ-loop Inv-sites μ-sites
-is-site-requires c κs = search needs
+inside : (s : tie.In-sites Inv-loop μ-loop Inv-sites μ-sites) → s .before .sites .i < length (cs (s .before))
+inside s = omega (arith, length-cells (now (start (s .before) .args .part)), s .sites-test .taken)
 
--- src/repeats.rt:35:47
-repeated-requires : tie.Need-repeated-requires Inv-loop μ-loop Inv-sites μ-sites
-repeated-requires c κs = search needs
+-- the turn of a place before the inner loop, and what is searched there
+abbrev turn : tie.After-search-end Inv-loop μ-loop Inv-sites μ-sites → tie.At-sites Inv-loop μ-loop Inv-sites μ-sites
+turn r = r .before .before .before .before .before .before .before .before
 
--- src/repeats.rt:38:17
-add-earlier : tie.Need-add-earlier Inv-loop μ-loop Inv-sites μ-sites
-add-earlier c = search needs
+searched : (r : tie.After-search-end Inv-loop μ-loop Inv-sites μ-sites) → r .search-end .result ≤ turn r .sites .met
+searched r = search-within (now (start (turn r) .args .sites)) (turn r .sites .met) _ (r .search-end .ensures)
 
--- src/repeats.rt:33:13
-loop-less : tie.Need-loop-less Inv-loop μ-loop Inv-sites μ-sites
-loop-less c = search needs
-
--- src/repeats.rt:33:13
-loop-again : tie.Need-loop-again Inv-loop μ-loop Inv-sites μ-sites
-loop-again c =
-    let l = c .before .before .before .before in
-    let k = l .before .before in
-    let a = k .before .before .before .before .before .before .before .before .args in
-    let s = now (a .code) in
-    let h : l .loop .earlier < length (cells s) = omega (arith, length-cells s, l .before .reach .ensures .0) in
-    let x = k .before .s .given .0 .0 in (
-      l .loop .inv .0,
-      any-not (λ (d : Cell). isSite x (siteBy Code (a .w) d)) [] (cells s) (l .loop .earlier) h (l .loop .inv .1)
-          (ap (isSite x) (sym (c .before .before .site-by2 .ensures)) ∙ sym (c .before .is-site .ensures) ∙ c .if1 .left),
-      omega arith,
-    )
-
-enum-told : tie.Need-enum-told Inv-loop μ-loop Inv-sites μ-sites
-enum-told c = search needs
-
--- src/repeats.rt:41:9
-add-i : tie.Need-add-i Inv-loop μ-loop Inv-sites μ-sites
-add-i c = search needs
-
--- src/repeats.rt:29:5
-sites-less : tie.Need-sites-less Inv-loop μ-loop Inv-sites μ-sites
-sites-less c = search needs
-
--- src/repeats.rt:29:5
-sites-again : tie.Need-sites-again Inv-loop μ-loop Inv-sites μ-sites
-sites-again c =
-    let q = c .before .before in
-    let l = q .before in
-    let a = l .before .before .before .args in
-    let s = now (a .code) in
-    let i = l .sites .i in
-    let h : i < length (cells s) = omega (arith, length-cells s, q .sites-test .taken) in
-    let e = sym (c .before .site-by .ensures) in
-    let pass = scan-passes (judgeCommand (a .w) (a .position)) (cells s) i h (l .sites .inv .2) in
-    let es = take i (cells s) in
-    ⊎-elim
-    (λ k. (
-      k .6 ∙ k .4 .inv .0,
-      omega arith,
-      pass (fresh-passes (a .w) (a .position) es (getD (cells s) i []) (k .1 .given .0 .0) (e ∙ k .1 .given .1)
-          (k .3 .ensures .1 Code (a .w) (cells s) (l .before .before .before .pre)
-          (subst (λ (n : ℕ). stands (siteBy Code (a .w)) (k .1 .given .0 .0) (take n (cells s)) ≡ false) (le-antisymm (k .4 .inv .2) (k .5 .left)) (k .4 .inv .1)))),
-    ))
-    (λ k. (k .2 ∙ l .sites .inv .0, omega arith, pass (absent-passes (a .w) (a .position) es (getD (cells s) i []) (e ∙ k .1 .given .1))))
-    (c .match .came)
-
--- src/repeats.rt:23:1
 returns : tie.Need-returns Inv-loop μ-loop Inv-sites μ-sites
 returns c =
-    let l = c .before in
-    let a = l .before .before .before .args in
-    let s = now (a .code) in
-    let h : length (cells s) ≤ l .sites .i = omega (arith, length-cells s, c .sites-test .left) in
-    l .sites .inv .0 ∙ scan-ends (judgeCommand (a .w) (a .position)) (cells s) (l .sites .i) h (l .sites .inv .2)
+    let q = c .before .before .before in
+    fresh-none (q .args .p) (q .args .w) (q .args .position) (cells (now (q .args .part))) (listed-none (q .pre) (c .if1 .taken))
 
--- src/repeats.rt:23:1
+sites-holds : tie.Need-sites-holds Inv-loop μ-loop Inv-sites μ-sites
+sites-holds c = (refl, omega arith, refl, refl)
+
+search-end-requires : tie.Need-search-end-requires Inv-loop μ-loop Inv-sites μ-sites
+search-end-requires c κs = few (c .before .before .before .before .before .before .before)
+
+loop-holds : tie.Need-loop-holds Inv-loop μ-loop Inv-sites μ-sites
+loop-holds c = (turn c .sites .inv .0, omega arith, refl)
+
+mul-if3 : tie.Need-mul-if3 Inv-loop μ-loop Inv-sites μ-sites
+mul-if3 c = omega (arith, few (turn (c .before .before)), searched (c .before .before))
+
+shared-slice-read-if3 : tie.Need-shared-slice-read-if3 Inv-loop μ-loop Inv-sites μ-sites
+shared-slice-read-if3 c = omega (arith, few (turn (c .before .before .before)), searched (c .before .before .before))
+
+loop-again : tie.Need-loop-again Inv-loop μ-loop Inv-sites μ-sites
+loop-again c =
+    let m = c .before .before .before in
+    let r = m .before in
+    let sites = now (start (turn r) .args .sites) in
+    let h : m .loop .earlier < length sites = omega (arith, few (turn r), searched r) in
+    (m .loop .inv .0, omega arith, any-not (λ (y : ℕ). eqb y (r .before .before .before .before .s .given .0 .0)) 0 sites (m .loop .earlier) h (m .loop .inv .2) (ne-eqb _ _ (c .if3 .left)))
+
+add-met : tie.Need-add-met Inv-loop μ-loop Inv-sites μ-sites
+add-met c = omega (arith, few (turn (c .before .before)))
+
+sites-again : tie.Need-sites-again Inv-loop μ-loop Inv-sites μ-sites
+sites-again c =
+    let s = c .before .before in
+    let l = s .before in
+    let a = start l .args in
+    let i = l .sites .i in
+    let pass = scan-passes (judge l) (cs l) i (inside s) (l .sites .inv .3) in
+    let read = sym (c .before .site-by .ensures) in
+    ⊎-elim
+    (λ k.
+    let x = k .1 .given .0 .0 in
+    let site = read ∙ k .1 .given .1 in
+    let searched-all = subst (λ (n : ℕ). oneOf x (take n (now (a .sites))) ≡ false) (le-antisymm (k .6 .inv .1) (k .7 .left) ∙ k .5 .ensures) (k .6 .inv .2) in (
+      k .8 ∙ k .6 .inv .0,
+      omega arith,
+      sites-with (siteBy (a .p) (a .w)) (cs l) i x (inside s) site ∙ ap (λ (n : ℕ). n + 1) (l .sites .inv .2) ∙ sym (k .9),
+      pass (fresh-passes (a .p) (a .w) (a .position) (take i (cs l)) (cell l) x site (sym (k .3 .ensures) ∙ k .4 .left) (stood l x ∙ search-none (now (a .sites)) (l .sites .met) x searched-all)),
+    ))
+    (λ k. (
+      k .2 ∙ l .sites .inv .0,
+      omega arith,
+      sites-without (siteBy (a .p) (a .w)) (cs l) i (inside s) (read ∙ k .1 .given .1) ∙ l .sites .inv .2 ∙ sym (k .3),
+      pass (none-passes (a .p) (a .w) (a .position) (take i (cs l)) (cell l) (read ∙ k .1 .given .1)),
+    ))
+    (c .match .came)
+
 returns-2 : tie.Need-returns-2 Inv-loop μ-loop Inv-sites μ-sites
 returns-2 c =
+    let l = c .before in
+    let h : length (cs l) ≤ l .sites .i = omega (arith, length-cells (now (start l .args .part)), c .sites-test .left) in
+    l .sites .inv .0 ∙ scan-ends (judge l) (cs l) (l .sites .i) h (l .sites .inv .3)
+
+returns-3 : tie.Need-returns-3 Inv-loop μ-loop Inv-sites μ-sites
+returns-3 c =
+    let b = c .before .before in
+    let known = b .before .before in
+    let s = known .before .before .before in
+    let l = s .before in
+    let a = start l .args in
+    let site = sym (known .before .before .site-by .ensures) ∙ known .s .given .1 in
+    scan-refuses (judge l) (cs l) (l .sites .i) (inside s) (l .sites .inv .3)
+    (barred-refuses (a .p) (a .w) (a .position) (take (l .sites .i) (cs l)) (cell l) (known .s .given .0 .0) site (sym (b .barred .ensures) ∙ c .before .if2 .taken)
+    ∙ ap (λ (x : ℕ). Refused (ActivationSiteOnWrite (a .position) x)) (sym (c .wide .ensures)))
+
+returns-4 : tie.Need-returns-4 Inv-loop μ-loop Inv-sites μ-sites
+returns-4 c =
     let m = c .before .before .before .before .before in
-    let k = m .before .before in
-    let r = k .before .before .before in
-    let q = r .before in
-    let l = q .before in
-    let a = l .before .before .before .args in
-    let s = now (a .code) in
-    let i = l .sites .i in
-    let h : i < length (cells s) = omega (arith, length-cells s, q .sites-test .taken) in
-    let g : m .loop .earlier < i = omega (arith, c .before .before .before .before .loop-test .taken, m .before .reach .ensures .0) in
-    let j : m .loop .earlier < length (cells s) = omega (arith, g, h) in
-    let x = k .before .s .given .0 .0 in
-    scan-refuses (judgeCommand (a .w) (a .position)) (cells s) i h (l .sites .inv .2)
-    (repeat-refuses (a .w) (a .position) (take i (cells s)) (getD (cells s) i []) x (c .repeated .result) (c .repeated .ensures)
-    (sym (r .site-by .ensures) ∙ k .before .s .given .1)
-    (any-at (λ (d : Cell). isSite x (siteBy Code (a .w) d)) [] (cells s) i (m .loop .earlier) g j
-    (ap (isSite x) (sym (c .before .before .before .site-by2 .ensures)) ∙ sym (c .before .before .is-site .ensures) ∙ c .before .if1 .taken)))
+    let r = m .before in
+    let b = r .before .before in
+    let known = b .before .before in
+    let s = known .before .before .before in
+    let l = s .before in
+    let a = start l .args in
+    let x = known .s .given .0 .0 in
+    let site = sym (known .before .before .site-by .ensures) ∙ known .s .given .1 in
+    let j : m .loop .earlier < l .sites .met = omega (arith, c .before .before .before .before .loop-test .taken, searched r) in
+    let n : m .loop .earlier < length (now (a .sites)) = omega (arith, j, few l) in
+    let found = any-at (λ (y : ℕ). eqb y x) 0 (now (a .sites)) (l .sites .met) (m .loop .earlier) j n (eq-eqb _ _ (c .before .before .if3 .taken)) in
+    scan-refuses (judge l) (cs l) (l .sites .i) (inside s) (l .sites .inv .3)
+    (repeat-refuses (a .p) (a .w) (a .position) (take (l .sites .i) (cs l)) (cell l) x (c .repeated .result) (c .repeated .ensures ∙ ap (repeatedOn (a .p) (a .w) (a .position)) (c .before .wide2 .ensures))
+    site (sym (b .barred .ensures) ∙ r .before .if2 .left) (stood l x ∙ found))
 
 pub check-repeat-spec : {M : Type 1} → statement M
 check-repeat-spec =
@@ -168,20 +173,26 @@ check-repeat-spec =
     μ-loop
     Inv-sites
     μ-sites
-    sites-holds
-    site-by-requires
-    enum-known-s
-    reach-requires
-    loop-holds
-    site-by-requires-2
-    is-site-requires
-    repeated-requires
-    add-earlier
-    loop-less
-    loop-again
-    enum-told
-    add-i
-    sites-less
-    sites-again
     returns
-    returns-2)
+    sites-holds
+    (λ c κs. search needs)
+    (λ c. search needs)
+    (λ c κs. search needs)
+    (λ c κs. search needs)
+    search-end-requires
+    loop-holds
+    mul-if3
+    shared-slice-read-if3
+    (λ c κs. search needs)
+    (λ c κs. search needs)
+    (λ c. search needs)
+    (λ c. search needs)
+    loop-again
+    add-met
+    (λ c. search needs)
+    (λ c. search needs)
+    (λ c. search needs)
+    sites-again
+    returns-2
+    returns-3
+    returns-4)

@@ -1,77 +1,60 @@
 -- `sites::rules::check_rule` meets its contract.
-use mathlib.Core.Path.{_≡_, refl, ap, sym, _∙_}
-use mathlib.Core.List.{List, []}
-use Prim.Native.Nat.{ℕ, _+_, _-_, _≤_, _<_}
+use mathlib.Core.Path.{refl, sym, _∙_}
+use mathlib.Core.List.{List}
+use Prim.Native.Nat.{_-_, _≤_, _<_}
 use native.Mathlib.Omega.{arith}
-use borrow.Author.Needs.{needs}
 use denote.Ref.{now}
-use lib.ListN.{length, getD, take, drop}
+use lib.ListN.{length, take}
 use Rattle.cells.specs.Cells.{Cell, cells}
+use Rattle.cells.specs.declared.refusal.Checked.{Checked}
 use Rattle.cells.proofs.Cells.{length-cells}
 use Rattle.cells.proofs.Answers.{Left, scan-passes, scan-refuses, scan-ends}
+use Rattle.sites.specs.Numbered.{countIn}
 use Rattle.sites.specs.Validators.{judgeBy, ruleAnswer}
+use borrow.Author.Needs.{needs}
 use Rattle.sites.proofs.rules.check_rule.Statement.{statement}
 use Rattle.sites.proofs.rules.check_rule.Tie as tie
-use Rattle.sites.proofs.rules.check_rule.Reads as reads
-use Rattle.sites.proofs.rules.check_rule.Lts as lts
-use Rattle.sites.proofs.rules.judge.Reads as judge-reads
 
 abbrev Inv-loop : tie.InvT-loop
-Inv-loop part others numbers k rule position n i₀ i = (i ≤ n) × Left (λ (_ : List Cell) (d : Cell). judgeBy rule position (cells others) d) (cells part) (ruleAnswer rule position (cells others) (cells part)) i
+Inv-loop part sites k rule position n i₀ i =
+    let count = countIn (take k sites) in
+    (i ≤ n) × Left (λ (_ : List Cell) (c : Cell). judgeBy rule position count c) (cells part) (ruleAnswer rule position count (cells part)) i
 
 abbrev μ-loop : tie.MeasureT-loop
-μ-loop part others numbers k rule position n i₀ i = n - i
+μ-loop part sites k rule position n i₀ i = n - i
 
--- src/rules.rt:22:5
+-- the cells, and what each is judged by
+module _ (l : tie.At-loop Inv-loop μ-loop) where
+  abbrev cs : List Cell
+  cs = cells (now (l .before .before .before .args .part))
+
+  abbrev judged : List Cell → Cell → Checked
+  judged _ c = judgeBy (l .before .before .before .args .rule) (l .before .before .before .args .position) (countIn (take (l .before .before .before .args .k) (now (l .before .before .before .args .sites)))) c
+
+inside : (t : tie.In-loop Inv-loop μ-loop) → t .before .loop .i < length (cs (t .before))
+inside t = omega (arith, length-cells (now (t .before .before .before .before .args .part)), t .loop-test .taken)
+
 loop-holds : tie.Need-loop-holds Inv-loop μ-loop
 loop-holds c = (omega arith, refl)
 
--- src/rules.rt:23:13
-judge-requires : tie.Need-judge-requires Inv-loop μ-loop
-judge-requires c κs = search needs
-
-enum-told : tie.Need-enum-told Inv-loop μ-loop
-enum-told c = search needs
-
--- src/rules.rt:25:13
-enum-told-2 : tie.Need-enum-told-2 Inv-loop μ-loop
-enum-told-2 c = search needs
-
--- src/rules.rt:25:13
 returns : tie.Need-returns Inv-loop μ-loop
 returns c =
-    let l = c .before .before .before .before in
-    let a = c .before .before .before .before .before .before .before .before .args in
-    let s = now (a .part) in
-    let h : l .loop .i < length (cells s) = omega (arith, length-cells s, c .before .before .before .loop-test .taken) in
+    let t = c .before .before .before in
+    let l = t .before in
     let e = c .enum-told2 .given .1 in
-    e ∙ scan-refuses (λ (_ : List Cell) (d : Cell). judgeBy (a .rule) (a .position) (cells (now (a .others))) d) (cells s) (l .loop .i) h (l .loop .inv .1) (sym (c .before .before .judge .ensures) ∙ e)
+    e ∙ scan-refuses (judged l) (cs l) (l .loop .i) (inside t) (l .loop .inv .1) (sym (c .before .before .judge .ensures) ∙ e)
 
--- src/rules.rt:27:9
-add-i : tie.Need-add-i Inv-loop μ-loop
-add-i c = search needs
-
--- src/rules.rt:22:5
-loop-less : tie.Need-loop-less Inv-loop μ-loop
-loop-less c = search needs
-
--- src/rules.rt:22:5
 loop-again : tie.Need-loop-again Inv-loop μ-loop
 loop-again c =
-    let l = c .before .before .before .before in
-    let a = c .before .before .before .before .before .before .before .before .args in
-    let s = now (a .part) in
-    let h : l .loop .i < length (cells s) = omega (arith, length-cells s, c .before .before .before .loop-test .taken) in
-    (omega arith, scan-passes (λ (_ : List Cell) (d : Cell). judgeBy (a .rule) (a .position) (cells (now (a .others))) d) (cells s) (l .loop .i) h (l .loop .inv .1) (sym (c .before .before .judge .ensures) ∙ c .enum-told .given .1))
+    let t = c .before .before .before in
+    let l = t .before in
+    (omega arith, scan-passes (judged l) (cs l) (l .loop .i) (inside t) (l .loop .inv .1) (sym (c .before .before .judge .ensures) ∙ c .enum-told .given .1))
 
--- src/rules.rt:17:1
 returns-2 : tie.Need-returns-2 Inv-loop μ-loop
 returns-2 c =
     let l = c .before in
-    let a = c .before .before .before .before .before .args in
-    let s = now (a .part) in
-    let h : length (cells s) ≤ l .loop .i = omega (arith, length-cells s, c .loop-test .left) in
-    scan-ends (λ (_ : List Cell) (d : Cell). judgeBy (a .rule) (a .position) (cells (now (a .others))) d) (cells s) (l .loop .i) h (l .loop .inv .1)
+    let h : length (cs l) ≤ l .loop .i = omega (arith, length-cells (now (l .before .before .before .args .part)), c .loop-test .left) in
+    scan-ends (judged l) (cs l) (l .loop .i) h (l .loop .inv .1)
 
 pub check-rule-spec : {M : Type 1} → statement M
 check-rule-spec =
@@ -80,11 +63,11 @@ check-rule-spec =
     Inv-loop
     μ-loop
     loop-holds
-    judge-requires
-    enum-told
-    enum-told-2
+    (λ c κs. search needs)
+    (λ c. search needs)
+    (λ c. search needs)
     returns
-    add-i
-    loop-less
+    (λ c. search needs)
+    (λ c. search needs)
     loop-again
     returns-2)

@@ -1,36 +1,22 @@
 -- `sites::rules::judge_met` meets its contract.
 use borrow.Author.Tests.{ne-eqb}
+use Rattle.sites.specs.Validators.{unmatched}
 use borrow.Author.Needs.{needs}
 use Rattle.sites.proofs.rules.judge_met.Statement.{statement}
 use Rattle.sites.proofs.rules.judge_met.Tie as tie
-use Rattle.sites.proofs.rules.judge_met.Reads as reads
-use Rattle.sites.proofs.rules.judge_met.Lts as lts
-use Rattle.sites.proofs.times.Reads as times-reads
 
--- src/rules.rt:50:18
-enum-known-s : tie.Need-enum-known-s
-enum-known-s c = search needs
-
--- src/rules.rt:51:9
-enum-told : tie.Need-enum-told
-enum-told c = search needs
-
--- src/rules.rt:51:9
 returns : tie.Need-returns
-returns c = search needs
+returns c = simp (c .enum-told .given .1)
 
--- src/rules.rt:53:8
-times-requires : tie.Need-times-requires
-times-requires c κs = search needs
-
--- src/rules.rt:54:9
 returns-2 : tie.Need-returns-2
-returns-2 c = simp (c .before .before .before .s .given .1, ← (c .before .times .ensures), c .if1 .taken)
+returns-2 c =
+    let t = c .before .before .before in
+    simp (t .before .before .s .given .1, ← (t .count .ensures), c .before .before .if1 .taken, c .unmatched .ensures, c .before .wide .ensures)
 
--- src/rules.rt:47:1
 returns-3 : tie.Need-returns-3
-returns-3 c = simp (c .before .before .before .s .given .1, ← (c .before .times .ensures), ne-eqb _ _ (c .if1 .left))
+returns-3 c = simp (c .before .before .before .s .given .1, ← (c .before .count .ensures), ne-eqb _ _ (c .if1 .left))
 
 pub judge-met-spec : {M : Type 1} → statement M
 judge-met-spec =
-    tie.close (tie.spec enum-known-s enum-told returns times-requires returns-2 returns-3)
+    tie.close
+    (tie.spec (λ c. search needs) (λ c. search needs) returns (λ c κs. search needs) (λ c κs. search needs) (λ c κs. search needs) returns-2 returns-3)

@@ -1,0 +1,4 @@
+pub mod Called
+pub mod Marked
+pub mod Replies
+pub mod Run

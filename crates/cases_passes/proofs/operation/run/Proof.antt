@@ -1,0 +1,54 @@
+-- `cases_passes::operation::run` meets its contract.
+use mathlib.Core.Path.{refl}
+use borrow.Author.Needs.{needs}
+use Rattle.cases_passes.proofs.operation.run.Statement.{statement}
+use Rattle.cases_passes.proofs.operation.run.Tie as tie
+
+returns : tie.Need-returns
+returns c = simp (c .of-check .ensures, c .before .image-check .ensures .answer, c .before .before .enum-told .given .1) (refl, refl)
+
+returns-2 : tie.Need-returns-2
+returns-2 c = simp (c .of-check2 .ensures, c .before .site-check .ensures .answer, c .before .before .enum-told2 .given .1) (refl, refl)
+
+returns-3 : tie.Need-returns-3
+returns-3 c =
+    let d = c .before .before .before .cleanup .ensures in
+    simp (c .of-rewrite .ensures, d .answer, d .bytes, c .before .before .before .before .before .enum-told3 .given .1) (refl, refl)
+
+returns-4 : tie.Need-returns-4
+returns-4 c =
+    let d = c .before .before .before .crystalfold .ensures in
+    simp (c .of-rewrite2 .ensures, d .answer, d .bytes, c .before .before .before .before .before .enum-told4 .given .1) (refl, refl)
+
+returns-5 : tie.Need-returns-5
+returns-5 c =
+    let d = c .before .before .before .run-default-opt-passes .ensures .done in
+    simp (c .of-rewrite3 .ensures, d .answer, d .bytes, c .before .before .before .before .before .enum-told5 .given .1) (refl, refl)
+
+pub run-spec : {M : Type 1} → statement M
+run-spec =
+    tie.close
+    (tie.spec
+    (λ c. search needs)
+    (λ c κs. search needs)
+    (λ c κs. search needs)
+    (λ c. search needs)
+    (λ c κs. search needs)
+    (λ c κs. search needs)
+    (λ c. search needs)
+    (λ c κs. search needs)
+    (λ c κs. search needs)
+    (λ c. search needs)
+    (λ c κs. search needs)
+    (λ c κs. search needs)
+    (λ c. search needs)
+    (λ c κs. search needs)
+    (λ c κs. search needs)
+    returns
+    returns-2
+    (λ c. search needs)
+    returns-3
+    (λ c. search needs)
+    returns-4
+    (λ c. search needs)
+    returns-5)

@@ -1,0 +1,4 @@
+pub mod Operations
+pub mod Rows
+pub mod Runs
+pub mod States

@@ -1,0 +1,57 @@
+-- Inner: the operations of document 01 by their bytes in a file of cases (tests/images/README.md), what each answers by the document's numbers, and what
+-- it leaves in a lent output.
+use Prim.Native.Nat.{ℕ}
+use mathlib.Core.List.{List}
+use mathlib.Core.Bool.{Bool, false, cond}
+use lib.Dec.{eqb}
+use Rattle.cells.specs.Lists.{one}
+use Rattle.cells.specs.Refusals.{numbersOf}
+use Rattle.cells.specs.declared.refusal.Numbers.{Numbers}
+use Rattle.cells.specs.declared.refusal.Checked.{Checked}
+use Rattle.cells.specs.declared.refusal.Checked.the-variants.{Good, Refused as RefusedBy}
+use Rattle.crystalfold.specs.declared.rules.RuleSet.the-variants.{Default as DefaultRules}
+use Rattle.image.specs.Image.{imageAnswer}
+use Rattle.image.specs.SiteCheck.{siteAnswer}
+use Rattle.passes.specs.Passes.{passAnswer, passOutput}
+use Rattle.passes.specs.declared.Pass.the-variants.{Cleanup as CleanupPass, CrystalFold as CrystalFoldPass, Both}
+use Rattle.passes.specs.declared.Rewrite.{Rewrite}
+use Rattle.passes.specs.declared.Rewrite.the-variants.{Written, Refused}
+use Rattle.cases_passes.specs.declared.operation.Operation.{Operation}
+use Rattle.cases_passes.specs.declared.operation.Operation.the-variants.{ImageCheck, SiteCheck, Cleanup, CrystalFold, Default}
+use Rattle.cases_passes.specs.declared.operation.Asked.{Asked}
+use Rattle.cases_passes.specs.declared.operation.Asked.the-variants.{Run, Unknown}
+use Rattle.cases_passes.specs.declared.operation.Reply.{Reply}
+
+unfoldable pub askedBy : ℕ → Asked
+askedBy n = cond (eqb n 16) (Run ImageCheck) (cond (eqb n 17) (Run SiteCheck) (cond (eqb n 18) (Run Cleanup) (cond (eqb n 19) (Run CrystalFold) (cond (eqb n 20) (Run Default) Unknown))))
+
+-- "success gives the length written and the report"; "the two checks .. on success answer only that"
+abbrev pub goodReply : ℕ → ℕ → Bool → Reply
+goodReply n rewrites changed = record { number = 0; position = 0; detail = 0; length = n; rewrites = rewrites; changed = one changed }
+
+abbrev pub refusedReply : Numbers → Reply
+refusedReply x = record { number = x .number; position = x .position; detail = x .detail; length = 0; rewrites = 0; changed = 0 }
+
+abbrev pub checkReply : Checked → Reply
+checkReply Good = goodReply 0 0 false
+checkReply (RefusedBy x) = refusedReply (numbersOf x)
+
+abbrev pub rewriteReply : Rewrite → Reply
+rewriteReply (Written n report) = goodReply n (report .«num_rewrites») (report .changed)
+rewriteReply (Refused x) = refusedReply (numbersOf x)
+
+-- on the image s, lent n bytes
+abbrev pub answer : Operation → List ℕ → ℕ → Reply
+answer ImageCheck s n = checkReply (imageAnswer s)
+answer SiteCheck s n = checkReply (siteAnswer s)
+answer Cleanup s n = rewriteReply (passAnswer CleanupPass s n)
+answer CrystalFold s n = rewriteReply (passAnswer (CrystalFoldPass DefaultRules) s n)
+answer Default s n = rewriteReply (passAnswer (Both DefaultRules) s n)
+
+-- what the lent bytes then are; "the two checks write nothing"
+abbrev pub output : Operation → List ℕ → List ℕ → List ℕ
+output ImageCheck s before = before
+output SiteCheck s before = before
+output Cleanup s before = passOutput CleanupPass s before
+output CrystalFold s before = passOutput (CrystalFoldPass DefaultRules) s before
+output Default s before = passOutput (Both DefaultRules) s before

@@ -1,0 +1,123 @@
+// The operations by their bytes in a file of cases, and their answers by document 01's numbers.
+ghost use mathlib.Core.Path.{_≡_};
+ghost use mathlib.Core.Logic.{_↔_};
+ghost use mathlib.Core.Bool.{true};
+ghost use lib.ListN.{length};
+ghost use Rattle.cells.specs.Lists.{one};
+ghost use Rattle.cases_passes.specs.Operations.{askedBy, goodReply, refusedReply, checkReply, rewriteReply, answer, output};
+use cells::refusal::Checked;
+use cells::refusal::Numbers;
+use cells::refusal::numbers_of;
+use passes::Rewrite;
+
+pub enum Operation {
+    ImageCheck,
+    SiteCheck,
+    Cleanup,
+    CrystalFold,
+    Default,
+}
+
+// What a byte asks for.
+pub enum Asked {
+    Run(Operation),
+    Unknown,
+}
+
+// An answer's numbers. A refusal's are 0 0 0 on success, and the others are 0 on a refusal and of the two checks.
+pub struct Reply {
+    pub number: usize,
+    pub position: usize,
+    pub detail: usize,
+    pub length: usize,
+    pub rewrites: usize,
+    pub changed: usize,
+}
+
+pub fn asked_by(byte: u8) -> Asked
+    ensures { λ r. ⌜ r ≡ askedBy byte ⌝ }
+{
+    match byte {
+        16 => Asked::Run(Operation::ImageCheck),
+        17 => Asked::Run(Operation::SiteCheck),
+        18 => Asked::Run(Operation::Cleanup),
+        19 => Asked::Run(Operation::CrystalFold),
+        20 => Asked::Run(Operation::Default),
+        _ => Asked::Unknown,
+    }
+}
+
+// Runs an operation on an image and a lent output.
+pub fn run(operation: Operation, image: &[u8], out: &mut [u8]) -> Reply
+    ensures { λ r. ⌜ r ≡ answer operation (now (image .entry)) (length (now (out .entry))) ⌝ }
+    ensures { λ _. ⌜ now (out .exit) ≡ output operation (now (image .entry)) (now (out .entry)) ⌝ }
+{
+    match operation {
+        Operation::ImageCheck => of_check(image::image_check(image)),
+        Operation::SiteCheck => of_check(image::site_check(image)),
+        Operation::Cleanup => of_rewrite(passes::cleanup(image, out)),
+        Operation::CrystalFold => of_rewrite(passes::crystalfold(image, out)),
+        Operation::Default => of_rewrite(passes::run_default_opt_passes(image, out)),
+    }
+}
+
+fn of_check(r: Checked) -> Reply
+    ensures { λ t. ⌜ t ≡ checkReply r ⌝ }
+{
+    match r {
+        Checked::Good => good(0, 0, false),
+        Checked::Refused(x) => refused(numbers_of(x)),
+    }
+}
+
+fn of_rewrite(r: Rewrite) -> Reply
+    ensures { λ t. ⌜ t ≡ rewriteReply r ⌝ }
+{
+    match r {
+        Rewrite::Written(length, report) => good(length, report.num_rewrites, report.changed),
+        Rewrite::Refused(x) => refused(numbers_of(x)),
+    }
+}
+
+fn good(length: usize, rewrites: usize, changed: bool) -> Reply
+    ensures { λ t. ⌜ t ≡ goodReply length rewrites changed ⌝ }
+{
+    Reply {
+        number: 0,
+        position: 0,
+        detail: 0,
+        length,
+        rewrites,
+        changed: number_of(changed),
+    }
+}
+
+fn refused(n: Numbers) -> Reply
+    ensures { λ t. ⌜ t ≡ refusedReply n ⌝ }
+{
+    Reply {
+        number: n.number,
+        position: n.position,
+        detail: n.detail,
+        length: 0,
+        rewrites: 0,
+        changed: 0,
+    }
+}
+
+fn number_of(b: bool) -> usize
+    ensures { λ r. ⌜ r ≡ one b ⌝ }
+{
+    if b { 1 } else { 0 }
+}
+
+pub fn same(a: Reply, b: Reply) -> bool
+    ensures { λ r. ⌜ (r ≡ true) ↔ (a ≡ b) ⌝ }
+{
+    (a.number == b.number)
+        & (a.position == b.position)
+        & (a.detail == b.detail)
+        & (a.length == b.length)
+        & (a.rewrites == b.rewrites)
+        & (a.changed == b.changed)
+}

@@ -1,0 +1,6 @@
+// The rule sets of the fold.
+
+// Default: the Rust's.
+pub enum RuleSet {
+    Default,
+}

@@ -1,0 +1,86 @@
+-- `matchdesk::run` meets its contract.
+use mathlib.Core.Path.{refl}
+use native.Mathlib.Omega.{arith}
+use denote.Ref.{now}
+use Rattle.matchdesk.specs.Program.{answerText, answerBytes, programTexts, workAfter}
+use Rattle.matchdesk.proofs.Replies.{reply-fits, said}
+use Rattle.matchdesk.proofs.Texts.{none-counted, only-output}
+use borrow.Author.Needs.{needs}
+use Rattle.matchdesk.proofs.run.Statement.{statement}
+use Rattle.matchdesk.proofs.run.Tie as tie
+
+answer-text-requires : tie.Need-answer-text-requires
+answer-text-requires c κs =
+    let s = c .before .before .before .before .before .before .before .before .before .before .before .before in
+    let w = c .before .before .before .before .run-default-opt-passes in
+    reply-fits (now (s .args .image)) (now (s .args .work)) _ _ (w .ensures) (omega (arith, w .kept)) _ (s .pre .for-output)
+
+answer-bytes-requires : tie.Need-answer-bytes-requires
+answer-bytes-requires c κs =
+    let s = c .before .before .before .before .before .before .before .before .before .before .before .before .before in
+    let w = c .before .before .before .before .before .run-default-opt-passes2 in
+    (reply-fits (now (s .args .image)) (now (s .args .work)) _ _ (w .ensures) (omega (arith, w .kept)) _ (s .pre .for-output), s .pre .for-error)
+
+returns : tie.Need-returns
+unfolding programTexts workAfter
+returns c =
+    let s = c .before .before .before .before .before .before .before .before .before .before .before .before .before .before .before in
+    let e = c .before .before .before .before .before .before .before .before .before .enum-told .given .1 in
+    let w = c .before .before .before .before .before .before .before .run-default-opt-passes .ensures in
+    let v = c .before .before .answer-text .ensures in (
+      (v .0, none-counted (now (s .args .error))),
+      (
+        rw (e, said (now (s .args .image)) (now (s .args .work)) _ answerText (λ x s t. refl) _ w (s .pre .for-work)) (only-output (v .1) (now (s .args .error))),
+        rw e (w .done .bytes),
+      ),
+    )
+
+returns-2 : tie.Need-returns-2
+unfolding programTexts workAfter
+returns-2 c =
+    let s = c .before .before .before .before .before .before .before .before .before .before .before .before .before .before .before .before .before .before in
+    let e = c .before .before .before .before .before .before .before .before .before .before .before .before .enum-told2 .given .1 in
+    let w = c .before .before .before .before .before .before .before .before .before .before .run-default-opt-passes2 .ensures in
+    let v = c .before .before .before .before .answer-bytes .ensures in (
+      v .0,
+      (
+        rw (e, said (now (s .args .image)) (now (s .args .work)) _ answerBytes (λ x s t. refl) _ w (s .pre .for-work)) (v .1),
+        rw e (w .done .bytes),
+      ),
+    )
+
+returns-3 : tie.Need-returns-3
+unfolding programTexts workAfter
+returns-3 c =
+    let s = c .before .before .before .before .before .before .before .before .before .before .before in
+    let e = c .before .before .before .before .before .enum-told3 .given .1 in
+    let v = c .before .before .check-line .ensures in (
+      (v .0, none-counted (now (s .args .error))),
+      (
+        rw (e, ← c .before .before .before .before .site-check .ensures .answer) (only-output (v .1) (now (s .args .error))),
+        rw e refl,
+      ),
+    )
+
+pub run-spec : {M : Type 1} → statement M
+run-spec =
+    tie.close
+    (tie.spec
+    (λ c. search needs)
+    (λ c κs. search needs)
+    answer-text-requires
+    (λ c. search needs)
+    (λ c κs. search needs)
+    answer-bytes-requires
+    (λ c. search needs)
+    (λ c κs. search needs)
+    (λ c κs. search needs)
+    (λ c. search needs)
+    (λ c. search needs)
+    returns
+    (λ c. search needs)
+    (λ c. search needs)
+    (λ c. search needs)
+    returns-2
+    (λ c. search needs)
+    returns-3)

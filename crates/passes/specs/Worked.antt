@@ -1,0 +1,96 @@
+-- Worked: the rewriting operations on images and lent outputs written out by hand from document 01 ('Answers of the operations', 'Cells on
+-- either edge'): the reply, and every byte of the output at exit.
+use mathlib.Core.Path.{_≡_, refl}
+use mathlib.Core.Bool.{true, false}
+use mathlib.Core.List.{List, [], _∷_, _++_, map}
+use Prim.Native.Nat.{ℕ}
+use lib.ListN.{length, replicate}
+use Rattle.leaves.specs.Signed.{wrap, addI32}
+use Rattle.cells.specs.Assembler.{cell, Head, LoadI32, LoadBool, AddI32, Ret, RetNothing, site, noSite, StoreVarSited, MakeRecord, Borrow, Write, function}
+use Rattle.cells.specs.Cells.{over}
+use Rattle.cells.specs.Check.{instructionCheck, eventCheck, headCheck}
+use Rattle.cells.specs.Functions.{functions}
+use Rattle.cells.specs.Refusals.{numbered}
+use Rattle.cells.specs.Table.{rows, classOf}
+use Rattle.cells.specs.View.{view, loadCell}
+use Rattle.sites.specs.Sites.{siteOf, eventSite, siteBy}
+use Rattle.sites.specs.Validators.{repeatAnswer, activationAnswer, judgeBy}
+use Rattle.cleanup.specs.Cleanup.{cleanFunction, cleanCode, cleanEvents, cleanCount}
+use Rattle.crystalfold.specs.Rules.{defaultTable, defaultRules}
+use Rattle.crystalfold.specs.Fold.{note}
+use Rattle.crystalfold.specs.CrystalFold.{foldFunction, foldCode, foldsOf}
+use Rattle.crystalfold.specs.declared.rules.RuleSet.the-variants.{Default}
+use Rattle.image.specs.Image.{imageAnswer}
+use Rattle.image.specs.SiteCheck.{siteAnswer}
+use Rattle.passes.specs.Contracts.{Reply, success, refusal, replyOf}
+use Rattle.passes.specs.Passes.{passBytes, passCount, passCheck, passAnswer, passOutput}
+use Rattle.passes.specs.declared.Pass.{Pass}
+use Rattle.passes.specs.declared.Pass.the-variants.{Cleanup, CrystalFold, Both}
+
+pub record OperationCase : Type 0 where
+  pub pass : Pass
+  pub image : List ℕ
+  pub before : List ℕ
+  pub reply : Reply
+  pub after : List ℕ
+
+abbrev pub operation : Pass → List ℕ → List ℕ → Reply → List ℕ → OperationCase
+operation p s b r a = record { pass = p; image = s; before = b; reply = r; after = a }
+
+-- the whole rewrite; its refusals, which leave the output as it was
+abbrev pub whole : Pass
+whole = Both Default
+
+abbrev pub refuses : Pass → List ℕ → List ℕ → ℕ → ℕ → ℕ → OperationCase
+refuses p s b number position detail = operation p s b (refusal (numbered number position detail)) b
+
+-- n bytes of a lent output
+abbrev pub lent : ℕ → List ℕ
+lent n = replicate n 0xEE
+
+-- the printed example: LoadI32 r1 5, AddI32 r2 r1 r1, Ret r2 in function 7
+abbrev pub example : List ℕ
+example = function (LoadI32 1 5 ∷ AddI32 2 1 1 ∷ Ret 2 ∷ []) []
+
+abbrev pub folded : List ℕ
+folded = Head 7 3 0 ++ LoadI32 1 5 ++ LoadI32 2 10 ++ Ret 2
+
+abbrev pub operations : List OperationCase
+operations =
+    -- the printed example, by each operation
+    operation whole example (lent 64) (success 64 1 true) folded
+    ∷ operation (CrystalFold Default) example (lent 64) (success 64 1 true) folded
+    ∷ operation Cleanup example (lent 64) (success 64 0 false) example
+    -- nothing at all
+    ∷ operation whole [] [] (success 0 0 false) []
+    -- bytes past the length written keep their values
+    ∷ operation whole example (lent 80) (success 64 1 true) (folded ++ lent 16)
+    ∷ operation whole (function (LoadI32 1 5 ∷ LoadBool 1 1 ∷ []) []) (lent 48) (success 32 1 true) (Head 7 1 0 ++ LoadBool 1 1 ++ lent 16)
+    -- an unreachable StoreVar takes the events of its sites with it; the head counts what is left
+    ∷ operation Cleanup
+    (function (RetNothing ∷ StoreVarSited (site 9) (site 5) ∷ []) (Borrow (site 9) noSite ∷ Write noSite (site 5) ∷ []))
+    (lent 80)
+    (success 32 1 true)
+    (Head 7 1 0 ++ RetNothing ++ lent 48)
+    ∷ operation whole
+    (function (StoreVarSited (site 8) noSite ∷ RetNothing ∷ StoreVarSited (site 9) noSite ∷ []) (Borrow (site 9) noSite ∷ Borrow (site 8) noSite ∷ []))
+    (lent 96)
+    (success 64 1 true)
+    (Head 7 2 1 ++ StoreVarSited (site 8) noSite ++ RetNothing ++ Borrow (site 8) noSite ++ lent 32)
+    -- 5, a lent output shorter than the image, however short the rewritten one would be
+    ∷ refuses whole example (lent 63) 5 0 0
+    ∷ refuses Cleanup (function (LoadI32 1 5 ∷ LoadBool 1 1 ∷ []) []) (lent 47) 5 0 0
+    -- 1 before 5
+    ∷ refuses whole (0 ∷ []) [] 1 0 0
+    -- 5 before 2, and 2 where there is room
+    ∷ refuses whole (cell []) (lent 15) 5 0 0
+    ∷ refuses whole (cell []) (lent 16) 2 0 0
+    -- as the site check: the second function's fault, and nothing of the first is written
+    ∷ refuses whole (example ++ function (MakeRecord (site 5) ∷ []) []) (lent 96) 24 1 5
+    ∷ []
+
+pub operations-hold :
+    map (λ (c : OperationCase). operation (c .pass) (c .image) (c .before) (replyOf (passAnswer (c .pass) (c .image) (length (c .before)))) (passOutput (c .pass) (c .image) (c .before))) operations
+    ≡ operations
+unfolding over functions instructionCheck eventCheck headCheck rows classOf view loadCell siteOf eventSite siteBy repeatAnswer activationAnswer judgeBy cleanFunction cleanCode cleanEvents cleanCount defaultTable defaultRules note foldFunction foldCode foldsOf imageAnswer siteAnswer passBytes passCount passCheck passAnswer passOutput wrap addI32
+operations-hold = refl

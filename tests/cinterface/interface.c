@@ -1,0 +1,285 @@
+/*
+ * Calls every function of include/matchdesk.h and checks the value returned, both numbers and every byte of the lent output, and of the bytes
+ * around it. Images and expected answers are written out by hand from docs/FORMAT.md; none is computed.
+ */
+#include <stdint.h>
+
+#include "images.h"
+
+struct answer {
+    size_t number, first, second;
+};
+
+#define GOOD {0, 0, 0}
+
+/* The rows of crates/image/specs/Worked.antt, in its order: what the image check and what the site check answer. */
+static const struct checked {
+    const char *image;
+    struct answer image_check, site_check;
+} checked[] = {
+    /* good: nothing, a function with no cells, sites with their events */
+    {"", GOOD, GOOD},
+    {"F00700", GOOD, GOOD},
+    {"F0070001000200 4D0000000001090000000105 000109 0100000000000105", GOOD, GOOD},
+    {"F0070001000200 320000000000000105 0100000000000105 0100000000000105", GOOD, GOOD},
+    /* register 255 is read, 256 refuses 4 */
+    {"F0070001 2BFF0001", GOOD, GOOD},
+    {"F0070001 2B000101", {4, 0, 1}, {4, 0, 1}},
+    /* each number at its smallest image */
+    {"=00", {1, 0, 0}, {1, 0, 0}},
+    {"00", {2, 0, 0}, {2, 0, 0}},
+    {"F0070001", {2, 0, 0}, {2, 0, 0}},
+    {"F0070001 00", {3, 0, 1}, {3, 0, 1}},
+    {"F0070001 52", {3, 0, 1}, {3, 0, 1}},
+    {"F0070000000100 02", {3, 0, 1}, {3, 0, 1}},
+    {"F0070000000100 0002", {4, 0, 1}, {4, 0, 1}},
+    {"F0070000000100 000001", {4, 0, 1}, {4, 0, 1}},
+    {"F0070000000100 00000000000000000000000000000001", {4, 0, 1}, {4, 0, 1}},
+    {"F0070001 28000002", {4, 0, 1}, {4, 0, 1}},
+    {"F0070001 2C000004", {4, 0, 1}, {4, 0, 1}},
+    {"F0070001 0A000001", {4, 0, 1}, {4, 0, 1}},
+    {"F0070002 4D000000000109 4D000000000109", GOOD, {11, 0, 9}},
+    {"F0070000000100 010109", GOOD, {12, 0, 9}},
+    {"F0070000000200 000109 000109", GOOD, {13, 0, 9}},
+    {"F0070001 4D000000000109", GOOD, {14, 0, 0}},
+    {"F0070000000100 000109", GOOD, {14, 0, 0}},
+    {"F0070002 320000000000000105 320000000000000105", GOOD, {21, 0, 5}},
+    {"F0070000000100 0000000000000105", GOOD, {22, 0, 5}},
+    {"F0070000000100 01", GOOD, {23, 0, 0}},
+    {"F0070001 320000000000000105", GOOD, {24, 0, 5}},
+    {"F0070001000200 4D0000000000000000000105 0100000000000105 0100000000000105", GOOD, {25, 0, 5}},
+    {"F0070000000100 0100000000000105", GOOD, {26, 0, 5}},
+    /* two refusals: the earlier one wins */
+    {"F007000000000001", {4, 0, 0}, {4, 0, 0}},
+    {"F107000000000001", {2, 0, 0}, {2, 0, 0}},
+    {"F007000100000001", {2, 0, 0}, {2, 0, 0}},
+    {"F0070002 2B000101 00", {4, 0, 1}, {4, 0, 1}},
+    {"F0070004 4D000000000101 4D000000000102 4D000000000102 4D000000000101", GOOD, {11, 0, 2}},
+    {"F0070000000300 010109 000108 000108", GOOD, {12, 0, 9}},
+    {"F0070000000300 000108 000108 010109", GOOD, {13, 0, 8}},
+    {"F0070002 4D0000000001090000000105 4D0000000000000000000105", GOOD, {14, 0, 0}},
+    {"F0070000000200 0000000000000105 01", GOOD, {22, 0, 5}},
+    {"F0070000000200 01 0000000000000105", GOOD, {23, 0, 0}},
+    {"F0070002000200 320000000000000104 4D0000000000000000000105 0100000000000105 0100000000000105", GOOD, {24, 0, 4}},
+    {"F0070002000200 4D0000000000000000000105 320000000000000104 0100000000000105 0100000000000105", GOOD, {25, 0, 5}},
+    /* a site fault in function 0: behind it a good function, a site fault, and a fault of the image check, which comes before */
+    {"F0070001 320000000000000105 F00700", GOOD, {24, 0, 5}},
+    {"F00700 F0070001 320000000000000105", GOOD, {24, 1, 5}},
+    {"F0070001 320000000000000105 F0070002 0A0100 00", {3, 1, 4}, {3, 1, 4}},
+    /* 2,048 instructions and 1,024 events, one more of each, and one cell more than 65,536 bytes */
+    {"F007000008 2048*0A0100", GOOD, GOOD},
+    {"F007000108 2049*0A0100", {2, 0, 0}, {2, 0, 0}},
+    {"F0070000000004 1024*00", GOOD, GOOD},
+    {"F0070000000104 1025*00", {2, 0, 0}, {2, 0, 0}},
+    {"4097*F00700", {1, 0, 0}, {1, 0, 0}},
+    /* two of 24 and two of 26: the first in instruction order and in event order */
+    {"F0070002 320000000000000105 320000000000000104", GOOD, {24, 0, 5}},
+    {"F0070000000200 0100000000000105 0100000000000104", GOOD, {26, 0, 5}},
+    /* the largest site */
+    {"F0070000000100 0101FFFFFFFF", GOOD, {12, 0, 4294967295}},
+};
+
+/* What an operation writes, and its count; where nothing is named, the image itself and 0. */
+struct written {
+    const char *image;
+    size_t rewrites;
+};
+
+#define UNCHANGED {NULL, 0}
+
+static const struct rewritten {
+    const char *image;
+    struct written cleanup, crystalfold, rewrite;
+} rewritten[] = {
+    /* document 01's printed example: LoadI32 r1 5, AddI32 r2 r1 r1, Ret r2 in function 7 */
+    {"F0070003 2B010005 13020001000100 0C010200",
+     UNCHANGED, {"F0070003 2B010005 2B02000A 0C010200", 1}, {"F0070003 2B010005 2B02000A 0C010200", 1}},
+    /* its starred cases: I32 2,147,483,647 + 1 folds to -2,147,483,648 */
+    {"F0070003 2B0100FFFFFF7F 2B020001 13030001000200",
+     UNCHANGED, {"F0070003 2B0100FFFFFF7F 2B020001 2B030000000080", 1}, {"F0070003 2B0100FFFFFF7F 2B020001 2B030000000080", 1}},
+    /* I32 -7 / 2 gives -3, remainder -1 */
+    {"F0070003 2B0100F9FFFFFF 2B020002 27030001000200",
+     UNCHANGED, {"F0070003 2B0100F9FFFFFF 2B020002 2B0300FDFFFFFF", 1}, {"F0070003 2B0100F9FFFFFF 2B020002 2B0300FDFFFFFF", 1}},
+    {"F0070003 2B0100F9FFFFFF 2B020002 39030001000200",
+     UNCHANGED, {"F0070003 2B0100F9FFFFFF 2B020002 2B0300FFFFFFFF", 1}, {"F0070003 2B0100F9FFFFFF 2B020002 2B0300FFFFFFFF", 1}},
+    /* I32 -2,147,483,648 / -1 stays; U32 0 - 1 stays */
+    {"F0070003 2B010000000080 2B0200FFFFFFFF 27030001000200", UNCHANGED, UNCHANGED, UNCHANGED},
+    {"F0070003 2E0100 2E020001 1F030001000200", UNCHANGED, UNCHANGED, UNCHANGED},
+    /* Fx raw 1500 times 1500 gives 2250; -1 times 1 gives 0 */
+    {"F0070003 2A0100DC05 2A0200DC05 3B030001000200",
+     UNCHANGED, {"F0070003 2A0100DC05 2A0200DC05 2A0300CA08", 1}, {"F0070003 2A0100DC05 2A0200DC05 2A0300CA08", 1}},
+    {"F0070003 2A0100FFFFFFFF 2A020001 3B030001000200",
+     UNCHANGED, {"F0070003 2A0100FFFFFFFF 2A020001 2A0300", 1}, {"F0070003 2A0100FFFFFFFF 2A020001 2A0300", 1}},
+    /* Fx raw 2,147,483,647 times 1000 folds; times 1001 stays */
+    {"F0070003 2A0100FFFFFF7F 2A0200E803 3B030001000200",
+     UNCHANGED, {"F0070003 2A0100FFFFFF7F 2A0200E803 2A0300FFFFFF7F", 1}, {"F0070003 2A0100FFFFFF7F 2A0200E803 2A0300FFFFFF7F", 1}},
+    {"F0070003 2A0100FFFFFF7F 2A0200E903 3B030001000200", UNCHANGED, UNCHANGED, UNCHANGED},
+    /* QAnd T F is N; QOr T F is S; QImpl F N is T */
+    {"F0070003 2C010002 2C020001 3D030001000200",
+     UNCHANGED, {"F0070003 2C010002 2C020001 2C0300", 1}, {"F0070003 2C010002 2C020001 2C0300", 1}},
+    {"F0070003 2C010002 2C020001 40030001000200",
+     UNCHANGED, {"F0070003 2C010002 2C020001 2C030003", 1}, {"F0070003 2C010002 2C020001 2C030003", 1}},
+    {"F0070003 2C010001 2C0200 3E030001000200",
+     UNCHANGED, {"F0070003 2C010001 2C0200 2C030002", 1}, {"F0070003 2C010001 2C0200 2C030002", 1}},
+    /* CmpEq of I32 0 and U32 0 is false; of 0.0 and -0.0 true */
+    {"F0070003 2B0100 2E0200 19030001000200",
+     UNCHANGED, {"F0070003 2B0100 2E0200 280300", 1}, {"F0070003 2B0100 2E0200 280300", 1}},
+    {"F0070003 290100 2902000000000000000080 19030001000200",
+     UNCHANGED, {"F0070003 290100 2902000000000000000080 28030001", 1}, {"F0070003 290100 2902000000000000000080 28030001", 1}},
+    /* Label 1, Jmp 1, Label 1 becomes Label 1, Label 1 */
+    {"F0070003 0A0100 080100 0A0100", {"F0070002 0A0100 0A0100", 1}, UNCHANGED, {"F0070002 0A0100 0A0100", 1}},
+    /* LoadI32 r1, LoadBool r1 keeps the second; two LoadU32 r1 both stay */
+    {"F0070002 2B010005 28010001", {"F0070001 28010001", 1}, UNCHANGED, {"F0070001 28010001", 1}},
+    {"F0070002 2E010005 2E010005", UNCHANGED, UNCHANGED, UNCHANGED},
+    /* the good images of the table above */
+    {"", UNCHANGED, UNCHANGED, UNCHANGED},
+    {"F00700", UNCHANGED, UNCHANGED, UNCHANGED},
+    {"F0070001000200 4D0000000001090000000105 000109 0100000000000105", UNCHANGED, UNCHANGED, UNCHANGED},
+    {"F0070001000200 320000000000000105 0100000000000105 0100000000000105", UNCHANGED, UNCHANGED, UNCHANGED},
+    {"F0070001 2BFF0001", UNCHANGED, UNCHANGED, UNCHANGED},
+    {"F007000008 2048*0A0100", {"F0070001 0A0100", 2047}, UNCHANGED, {"F0070001 0A0100", 2047}},
+    {"F0070000000004 1024*00", UNCHANGED, UNCHANGED, UNCHANGED},
+    /* the longest image */
+    {"4096*F00700", UNCHANGED, UNCHANGED, UNCHANGED},
+    /* a StoreVar behind Ret goes, and its events with it */
+    {"F0070004000200 2B010005 0C 4D0500010001070000000108 0A0300 000107 0100000000000108",
+     {"F0070003 2B010005 0C 0A0300", 1}, UNCHANGED, {"F0070003 2B010005 0C 0A0300", 1}},
+    /* both passes have something to do: a load goes, BoolNot of the next one is folded */
+    {"F0070003 2B010005 28010001 1702000100",
+     {"F0070002 28010001 1702000100", 1}, {"F0070003 2B010005 28010001 280200", 1}, {"F0070002 28010001 280200", 2}},
+    /* the second function moves up */
+    {"F0070003 0A0100 0A0100 0C F0080003 2B010005 13020001000100 0C010200",
+     {"F0070002 0A0100 0C F0080003 2B010005 13020001000100 0C010200", 1},
+     {"F0070003 0A0100 0A0100 0C F0080003 2B010005 2B02000A 0C010200", 1},
+     {"F0070002 0A0100 0C F0080003 2B010005 2B02000A 0C010200", 2}},
+};
+
+typedef size_t check(const unsigned char *, size_t, size_t *, size_t *);
+typedef size_t operation(const unsigned char *, size_t, unsigned char *, size_t, size_t *, size_t *);
+
+/* What stands in the numbers before a call: no answer has it. */
+#define UNSET SIZE_MAX
+/* Bytes on either side of what is lent. */
+#define MARGIN 64
+
+static unsigned char image[LONGEST], sent[LONGEST], expected[LONGEST];
+static unsigned char memory[MARGIN + LONGEST + MATCHDESK_CELL + MARGIN];
+static unsigned calls, wrong;
+
+/* Two marks for a byte, so that no byte that is written can pass for one that was kept. */
+static unsigned char mark(size_t at, int turn)
+{
+    return (unsigned char)((at * 37 + 11) ^ (turn ? 0xFF : 0));
+}
+
+static void compare(const char *function, const char *text, struct answer want, struct answer got)
+{
+    calls++;
+    if (want.number != got.number || want.first != got.first || want.second != got.second) {
+        wrong++;
+        printf("%s(%.60s): expected %zu %zu %zu, got %zu %zu %zu\n", function, text, want.number, want.first, want.second, got.number, got.first,
+               got.second);
+    }
+}
+
+static void complain(const char *function, const char *text, const char *what, size_t at)
+{
+    wrong++;
+    printf("%s(%.60s): %s, byte %zu\n", function, text, what, at);
+}
+
+static void image_kept(const char *function, const char *text)
+{
+    for (size_t i = 0; i < LONGEST; i++) {
+        if (image[i] != sent[i]) {
+            complain(function, text, "the image was changed", i);
+            return;
+        }
+    }
+}
+
+static size_t send(const char *text)
+{
+    memset(sent, 0xEE, sizeof sent);
+    size_t length = assemble(text, sent);
+    memcpy(image, sent, sizeof image);
+    return length;
+}
+
+static void try_check(const char *function, check *call, const char *text, struct answer want)
+{
+    size_t length = send(text);
+    struct answer got = {0, UNSET, UNSET};
+    got.number = call(image, length, &got.first, &got.second);
+    compare(function, text, want, got);
+    image_kept(function, text);
+}
+
+/* One call with a lent output of that length. `written` is what stands at its start afterwards, behind which every byte is as it was. */
+static void try_output(const char *function, operation *call, const char *text, size_t length, size_t lent, struct answer want,
+                       const unsigned char *written, size_t bytes)
+{
+    for (int turn = 0; turn < 2; turn++) {
+        for (size_t i = 0; i < sizeof memory; i++)
+            memory[i] = mark(i, turn);
+        struct answer got = {0, UNSET, UNSET};
+        got.number = call(image, length, memory + MARGIN, lent, &got.first, &got.second);
+        compare(function, text, want, got);
+        image_kept(function, text);
+        for (size_t i = 0; i < sizeof memory; i++) {
+            int inside = i >= MARGIN && i - MARGIN < bytes;
+            if (memory[i] != (inside ? written[i - MARGIN] : mark(i, turn))) {
+                complain(function, text, inside ? "wrong output" : "a byte that should stay was changed", i - MARGIN);
+                break;
+            }
+        }
+    }
+}
+
+/* With an output exactly as long as the image, a cell longer, and a byte shorter, which is refusal 5 unless 1 comes before. */
+static void try_lengths(const char *function, operation *call, const char *text, size_t length, struct answer want, size_t bytes)
+{
+    struct answer shorter = {want.number == 1 ? 1 : 5, 0, 0};
+    try_output(function, call, text, length, length, want, expected, bytes);
+    try_output(function, call, text, length, length + MATCHDESK_CELL, want, expected, bytes);
+    if (length > 0)
+        try_output(function, call, text, length, length - 1, shorter, expected, 0);
+}
+
+static void try_written(const char *function, operation *call, const char *text, struct written w)
+{
+    size_t length = send(text);
+    size_t bytes = assemble(w.image != NULL ? w.image : text, expected);
+    struct answer want = {0, bytes, w.rewrites};
+    try_lengths(function, call, text, length, want, bytes);
+}
+
+static void try_refused(const char *function, operation *call, const char *text, struct answer want)
+{
+    try_lengths(function, call, text, send(text), want, 0);
+}
+
+int main(void)
+{
+    for (size_t i = 0; i < sizeof checked / sizeof *checked; i++) {
+        const struct checked *c = &checked[i];
+        try_check("image_check", matchdesk_image_check, c->image, c->image_check);
+        try_check("site_check", matchdesk_site_check, c->image, c->site_check);
+        if (c->site_check.number != 0) {
+            try_refused("cleanup", matchdesk_cleanup, c->image, c->site_check);
+            try_refused("crystalfold", matchdesk_crystalfold, c->image, c->site_check);
+            try_refused("rewrite", matchdesk_rewrite, c->image, c->site_check);
+        }
+    }
+    for (size_t i = 0; i < sizeof rewritten / sizeof *rewritten; i++) {
+        const struct rewritten *r = &rewritten[i];
+        struct answer good = GOOD;
+        try_check("image_check", matchdesk_image_check, r->image, good);
+        try_check("site_check", matchdesk_site_check, r->image, good);
+        try_written("cleanup", matchdesk_cleanup, r->image, r->cleanup);
+        try_written("crystalfold", matchdesk_crystalfold, r->image, r->crystalfold);
+        try_written("rewrite", matchdesk_rewrite, r->image, r->rewrite);
+    }
+    printf("interface: %u calls, %u wrong\n", calls, wrong);
+    return wrong != 0;
+}

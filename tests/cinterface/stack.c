@@ -1,0 +1,85 @@
+/*
+ * How much stack each function takes: it runs on a painted stack, and the paint that is gone is counted. The header's MATCHDESK_STACK must
+ * cover it.
+ */
+#include <ucontext.h>
+
+#include "images.h"
+
+#define PAINT 0xA5
+
+static unsigned char stack[1 << 20] __attribute__((aligned(4096)));
+static unsigned char image[LONGEST], out[LONGEST];
+static size_t length, number, first, second;
+static ucontext_t host, guest;
+
+static void image_check(void) { number = matchdesk_image_check(image, length, &first, &second); }
+static void site_check(void) { number = matchdesk_site_check(image, length, &first, &second); }
+static void cleanup(void) { number = matchdesk_cleanup(image, length, out, sizeof out, &first, &second); }
+static void crystalfold(void) { number = matchdesk_crystalfold(image, length, out, sizeof out, &first, &second); }
+static void rewrite(void) { number = matchdesk_rewrite(image, length, out, sizeof out, &first, &second); }
+
+static const struct {
+    const char *name;
+    void (*call)(void);
+} functions[] = {
+    {"image_check", image_check}, {"site_check", site_check}, {"cleanup", cleanup}, {"crystalfold", crystalfold}, {"rewrite", rewrite},
+};
+
+/* Ret, then 2,047 unreachable cells: 1,024 StoreVars with an activation site or a write site, and a Borrow or Write event for each */
+static void many_sites(void)
+{
+    length = assemble("F0070000080004 0C 2047*13020001000100 1024*00", image);
+    for (size_t i = 0; i < 1024; i++) {
+        unsigned char *store = image + MATCHDESK_CELL * (2 + i), *event = image + MATCHDESK_CELL * (2049 + i);
+        unsigned char site[5] = {1, (unsigned char)i, (unsigned char)(i >> 8), 0, 0};
+        memset(store, 0, MATCHDESK_CELL);
+        store[0] = 0x4D;
+        memcpy(store + (i % 2 ? 5 : 10), site, 5);
+        event[0] = i % 2 ? 0 : 1;
+        memcpy(event + (i % 2 ? 1 : 6), site, 5);
+    }
+}
+
+static size_t used(void (*call)(void))
+{
+    memset(stack, PAINT, sizeof stack);
+    getcontext(&guest);
+    guest.uc_stack.ss_sp = stack;
+    guest.uc_stack.ss_size = sizeof stack;
+    guest.uc_link = &host;
+    makecontext(&guest, call, 0);
+    swapcontext(&host, &guest);
+    size_t kept = 0;
+    while (kept < sizeof stack && stack[kept] == PAINT)
+        kept++;
+    return sizeof stack - kept;
+}
+
+int main(void)
+{
+    static const char *texts[] = {
+        "", "=00", "F0070001 2B010005", "F007000008 2048*0A0100", "F007000008 2B010005 2047*13020001000100", "F007000008 2C010002 2047*3D030001000100",
+        "F0070000080004 290100000000000000F03F 2047*25020001000100 1024*00", "F007000008 2048*28010001", "4096*F00700",
+    };
+    size_t most = 0;
+    for (size_t f = 0; f < sizeof functions / sizeof *functions; f++) {
+        size_t deepest = 0;
+        for (size_t i = 0; i <= sizeof texts / sizeof *texts; i++) {
+            if (i < sizeof texts / sizeof *texts)
+                length = assemble(texts[i], image);
+            else
+                many_sites();
+            size_t bytes = used(functions[f].call);
+            if (number != (i == 1)) {
+                printf("stack: %s answers %zu %zu %zu on image %zu\n", functions[f].name, number, first, second, i);
+                return 1;
+            }
+            deepest = bytes > deepest ? bytes : deepest;
+        }
+        printf("stack of %s: %zu bytes\n", functions[f].name, deepest);
+        most = deepest > most ? deepest : most;
+    }
+    printf("stack: at most %zu bytes, %s MATCHDESK_STACK, which is %d\n", most, most <= MATCHDESK_STACK ? "within" : "ABOVE", MATCHDESK_STACK);
+    return most > MATCHDESK_STACK;
+}
