@@ -1,5 +1,5 @@
 /*
- * The MatchDesk rewrite: image checks, cleanup, CrystalFold and the whole rewrite of cell images (docs/FORMAT.md says what an image is).
+ * The MatchDesk rewrite: image checks, cleanup, CrystalFold and the two whole rewrites of cell images (docs/FORMAT.md says what an image is).
  *
  * Library: target/staticlib/libcapi.a for Linux on x86-64, made by `rt staticlib capi`. Every function is proved to meet its contract
  * (crates/capi/specs/Contracts.antt), for images of all bytes and lengths and outputs of all lengths.
@@ -9,8 +9,8 @@
  * - Every pointer is valid for the length given with it, and not NULL even for a length of 0.
  * - What is written (the output, and the two numbers) overlaps with nothing else that the call is lent: the output isn't the image, and the
  *   two numbers are two.
- * - The floating-point environment is the default one for matchdesk_crystalfold and matchdesk_rewrite: see 'The floating-point environment'
- *   below.
+ * - The floating-point environment is the default one for matchdesk_crystalfold, matchdesk_rewrite and matchdesk_rewrite_fuller: see 'The
+ *   floating-point environment' below.
  * - There is room on the stack: MATCHDESK_STACK.
  *
  * No function allocates, keeps a pointer or a state, or reads or writes anything but what it is lent. Threads may call at the same time, if
@@ -26,7 +26,7 @@
 #endif
 
 /* The version of this interface: it rises when a function is added or an answer changes. */
-#define MATCHDESK_VERSION 1
+#define MATCHDESK_VERSION 2
 
 /* The bytes of a cell. */
 #define MATCHDESK_CELL 16
@@ -40,7 +40,7 @@
 
 /*
  * A call takes no more stack than this, in bytes, whatever the image. Measured, not proved (tests/cinterface/stack.c paints a stack and looks
- * how far each call went): 21 KiB for matchdesk_cleanup and matchdesk_rewrite, 14 KiB for matchdesk_crystalfold and matchdesk_site_check,
+ * how far each call went): 21 KiB for matchdesk_cleanup and the two rewrites, 14 KiB for matchdesk_crystalfold and matchdesk_site_check,
  * under 1 KiB for matchdesk_image_check. The rest is reserve. The frames have fixed sizes, and no function calls itself. What a thread needs
  * for itself comes on top: one made with a stack of 28 KiB could call matchdesk_rewrite, one of 24 KiB could not.
  */
@@ -110,11 +110,17 @@ size_t matchdesk_crystalfold(const unsigned char *image, size_t image_length, un
 size_t matchdesk_rewrite(const unsigned char *image, size_t image_length, unsigned char *out, size_t out_length, size_t *first, size_t *second);
 
 /*
+ * The fuller rewrite: as the whole rewrite, but that CrystalFold also folds the truth-order quads QTruthAnd, QTruthOr, QTruthNot and QTruthImpl,
+ * which matchdesk_crystalfold and matchdesk_rewrite leave as they are. It refuses as the whole rewrite.
+ */
+size_t matchdesk_rewrite_fuller(const unsigned char *image, size_t image_length, unsigned char *out, size_t out_length, size_t *first, size_t *second);
+
+/*
  * The floating-point environment.
  *
  * CrystalFold folds f64 commands with the machine's own operations, and the proofs speak of IEEE 754's default: round to nearest, ties to
- * even; subnormal numbers kept; no traps. In a thread that has set something else, matchdesk_crystalfold and matchdesk_rewrite write other
- * bytes, or don't come back:
+ * even; subnormal numbers kept; no traps. In a thread that has set something else, matchdesk_crystalfold, matchdesk_rewrite and
+ * matchdesk_rewrite_fuller write other bytes, or don't come back:
  *
  *   rounding upward            1.0 / 3.0 folds to 3FD5555555555556, not 3FD5555555555555
  *   FTZ and DAZ set (start-    5e-324 + 0.0 folds to 0.0, not 5e-324; CmpEq of 5e-324 and 0.0 to true, not false

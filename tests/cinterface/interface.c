@@ -154,6 +154,24 @@ static const struct rewritten {
      {"F0070002 0A0100 0C F0080003 2B010005 2B02000A 0C010200", 2}},
 };
 
+/* The truth-order quads (N 0, F 1, T 2, S 3), which the fuller rewrite folds and the others leave: the image, and what the fuller one writes. */
+static const struct truth {
+    const char *image;
+    struct written fuller;
+} truth[] = {
+    /* N and S can't be compared: their and is F, their or is T; not F or N is T; not exchanges F and T */
+    {"F0070003 2C0100 2C020003 41030001000200", {"F0070003 2C0100 2C020003 2C030001", 1}},
+    {"F0070003 2C0100 2C020003 44030001000200", {"F0070003 2C0100 2C020003 2C030002", 1}},
+    {"F0070003 2C010001 2C0200 42030001000200", {"F0070003 2C010001 2C0200 2C030002", 1}},
+    {"F0070004 2C010001 4302000100 2C0300 4304000300", {"F0070004 2C010001 2C020002 2C0300 2C0400", 2}},
+    /* T and S is S, QAnd of S and T is T */
+    {"F0070005 2C010002 2C020003 41030001000200 3D040003000100 0C010400", {"F0070005 2C010002 2C020003 2C030003 2C040002 0C010400", 2}},
+    /* an operand unknown, of another kind, behind a label */
+    {"F0070002 2C010001 41030001000200", UNCHANGED},
+    {"F0070002 28010001 4303000100", UNCHANGED},
+    {"F0070003 2C010001 0A0100 4303000100", UNCHANGED},
+};
+
 typedef size_t check(const unsigned char *, size_t, size_t *, size_t *);
 typedef size_t operation(const unsigned char *, size_t, unsigned char *, size_t, size_t *, size_t *);
 
@@ -269,6 +287,7 @@ int main(void)
             try_refused("cleanup", matchdesk_cleanup, c->image, c->site_check);
             try_refused("crystalfold", matchdesk_crystalfold, c->image, c->site_check);
             try_refused("rewrite", matchdesk_rewrite, c->image, c->site_check);
+            try_refused("rewrite_fuller", matchdesk_rewrite_fuller, c->image, c->site_check);
         }
     }
     for (size_t i = 0; i < sizeof rewritten / sizeof *rewritten; i++) {
@@ -279,6 +298,15 @@ int main(void)
         try_written("cleanup", matchdesk_cleanup, r->image, r->cleanup);
         try_written("crystalfold", matchdesk_crystalfold, r->image, r->crystalfold);
         try_written("rewrite", matchdesk_rewrite, r->image, r->rewrite);
+        /* none of these has a truth-order quad */
+        try_written("rewrite_fuller", matchdesk_rewrite_fuller, r->image, r->rewrite);
+    }
+    for (size_t i = 0; i < sizeof truth / sizeof *truth; i++) {
+        struct written unchanged = UNCHANGED;
+        try_written("cleanup", matchdesk_cleanup, truth[i].image, unchanged);
+        try_written("crystalfold", matchdesk_crystalfold, truth[i].image, unchanged);
+        try_written("rewrite", matchdesk_rewrite, truth[i].image, unchanged);
+        try_written("rewrite_fuller", matchdesk_rewrite_fuller, truth[i].image, truth[i].fuller);
     }
     printf("interface: %u calls, %u wrong\n", calls, wrong);
     return wrong != 0;

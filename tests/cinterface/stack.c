@@ -18,12 +18,14 @@ static void site_check(void) { number = matchdesk_site_check(image, length, &fir
 static void cleanup(void) { number = matchdesk_cleanup(image, length, out, sizeof out, &first, &second); }
 static void crystalfold(void) { number = matchdesk_crystalfold(image, length, out, sizeof out, &first, &second); }
 static void rewrite(void) { number = matchdesk_rewrite(image, length, out, sizeof out, &first, &second); }
+static void rewrite_fuller(void) { number = matchdesk_rewrite_fuller(image, length, out, sizeof out, &first, &second); }
 
 static const struct {
     const char *name;
     void (*call)(void);
 } functions[] = {
-    {"image_check", image_check}, {"site_check", site_check}, {"cleanup", cleanup}, {"crystalfold", crystalfold}, {"rewrite", rewrite},
+    {"image_check", image_check}, {"site_check", site_check}, {"cleanup", cleanup}, {"crystalfold", crystalfold},
+    {"rewrite", rewrite}, {"rewrite_fuller", rewrite_fuller},
 };
 
 /* Ret, then 2,047 unreachable cells: 1,024 StoreVars with an activation site or a write site, and a Borrow or Write event for each */
@@ -60,6 +62,7 @@ int main(void)
 {
     static const char *texts[] = {
         "", "=00", "F0070001 2B010005", "F007000008 2048*0A0100", "F007000008 2B010005 2047*13020001000100", "F007000008 2C010002 2047*3D030001000100",
+        "F007000008 2C010002 2047*42030001000100",
         "F0070000080004 290100000000000000F03F 2047*25020001000100 1024*00", "F007000008 2048*28010001", "4096*F00700",
     };
     size_t most = 0;

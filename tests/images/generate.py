@@ -1,15 +1,17 @@
 #!/usr/bin/env python3
-"""Makes what the program `cases_passes` runs: its data/images.bin of the rows below, its data/sample.bin of the original's answers
-(tests/differential), and its expected output, stdout. README.md has the layout, and how to add a row or an operation.
+"""Makes what the program `cases_passes` runs: its data/images.bin of the rows below, its data/sample.bin of the original's answers, and of the
+model's to the fuller rewrite (tests/differential), and its expected output, stdout. README.md has the layout, and how to add a row or an
+operation.
 
-Every expected byte is written out by hand from document 01. A word is a cell in hexadecimal, with zeros behind it; `CELL*N` is the cell N times,
-and `CELL*N@P` numbers these from 0 in the 2 bytes at P. Commands that the rows name by their bytes:
+Every expected byte is written out by hand from documents 01 and 02. A word is a cell in hexadecimal, with zeros behind it; `CELL*N` is the cell
+N times, and `CELL*N@P` numbers these from 0 in the 2 bytes at P. Commands that the rows name by their bytes:
 
 Assert 01, Call 02, ClockRead 03, ClosureCall 04, EventPost 05, GateRead 06, GateWrite 07, Jmp 08, JmpIf 09, Label 0A, PulseEmit 0B, Ret 0C,
 RngNextI32 0D, RngSeed 0E, StateQuery 0F, StateUpdate 10, AddF64 11, AddFx 12, AddI32 13, BoolAnd 16, BoolNot 17, BoolOr 18, CmpEq 19,
 CmpI32Le 1A, CmpI32Lt 1B, CmpU32Le 1C, CmpU32Lt 1D, AddU32 1E, SubU32 1F, MulU32 20, DivU32 21, ModU32 22, CmpNe 23, DivF64 25, DivFx 26,
 DivI32 27, LoadBool 28, LoadF64 29, LoadFx 2A, LoadI32 2B, LoadQ 2C, LoadText 2D, LoadU32 2E, LoadVar 2F, MakeRecord 32, ModI32 39, MulF64 3A,
-MulFx 3B, MulI32 3C, QAnd 3D, QImpl 3E, QNot 3F, QOr 40, QTruth 41 to 44, StoreVar 4D, SubF64 4E, SubFx 4F, SubI32 50.
+MulFx 3B, MulI32 3C, QAnd 3D, QImpl 3E, QNot 3F, QOr 40, QTruthAnd 41, QTruthImpl 42, QTruthNot 43, QTruthOr 44, StoreVar 4D, SubF64 4E,
+SubFx 4F, SubI32 50.
 """
 import collections
 import os
@@ -18,11 +20,11 @@ import sys
 
 ROOT = os.path.join(os.path.dirname(os.path.abspath(__file__)), "..", "..")
 CASES = os.path.join(ROOT, "crates", "cases_passes")
-# The answers of the original; its first line says how they were made.
+# The answers of the original, and of the model to the fuller rewrite; its first line says how they were made.
 SAMPLE = os.path.join(ROOT, "tests", "differential", "sample.bin")
 
 GROUP, NAME, IMAGE, OUTPUT = range(4)
-IMAGE_CHECK, SITE_CHECK, CLEANUP, CRYSTALFOLD, REWRITE = range(16, 21)
+IMAGE_CHECK, SITE_CHECK, CLEANUP, CRYSTALFOLD, REWRITE, FULLER = range(16, 22)
 
 # name, image, answers by operation: a refusal (number, position, detail), or the bytes written and the count of rewrites; a check writes none
 Row = collections.namedtuple("Row", "name image answers")
@@ -33,10 +35,10 @@ def function(code):
     return ("F00700%02X %s" % (len(code.split()), code)).strip()
 
 
-def good(name, image, cleanup=None, crystalfold=None, rewrite=None):
-    """An image that both checks pass; None is the image itself and no rewrite."""
+def good(name, image, cleanup=None, crystalfold=None, rewrite=None, fuller=None):
+    """An image that both checks pass; None is the image itself and no rewrite, of the fuller rewrite what the default one gives."""
     same = (image, 0)
-    answers = {CLEANUP: cleanup or same, CRYSTALFOLD: crystalfold or same, REWRITE: rewrite or same}
+    answers = {CLEANUP: cleanup or same, CRYSTALFOLD: crystalfold or same, REWRITE: rewrite or same, FULLER: fuller or rewrite or same}
     return Row(name, image, {IMAGE_CHECK: ("", 0), SITE_CHECK: ("", 0), **answers})
 
 
@@ -51,6 +53,11 @@ def folded(name, code, output, count):
     return good(name, function(code), crystalfold=answer, rewrite=answer)
 
 
+def fuller(name, code, output, count):
+    """A function's instruction cells, changed by the fuller rewrite alone."""
+    return good(name, function(code), fuller=(function(output), count))
+
+
 def kept(name, code):
     """A function's instruction cells, which stay."""
     return good(name, function(code))
@@ -58,7 +65,7 @@ def kept(name, code):
 
 def refused(name, image, number, position, detail):
     """Refusals from 11 on are the site check's alone; the operations refuse as it does."""
-    answers = dict.fromkeys((IMAGE_CHECK, SITE_CHECK, CLEANUP, CRYSTALFOLD, REWRITE), (number, position, detail))
+    answers = dict.fromkeys((IMAGE_CHECK, SITE_CHECK, CLEANUP, CRYSTALFOLD, REWRITE, FULLER), (number, position, detail))
     if 11 <= number:
         answers[IMAGE_CHECK] = ("", 0)
     return Row(name, image, answers)
@@ -293,7 +300,50 @@ GROUPS = [
                "2C010002 2C020001 2C030000 2C040000 2C050003 2C060002 2C070001 2C080000", 5),
         kept("quads, unknown", "2C010002 3D030001000200 40040002000100 3E050001000200 3F06000200"),
         kept("quads, of another kind", "2C010002 28020001 3D030001000200 40040002000100 3E050001000200 3F06000200"),
-        kept("QTruth commands", "2C010002 2C020001 41010001000200 3F03000100 2C010002 42010001000200 3F03000100 2C010002 4301000200 3F03000100 2C010002 44010001000200 3F03000100"),
+    ]),
+    # quads N 0, F 1, T 2, S 3; the default rewrite leaves the four and forgets their dst
+    ("fold, truth-order quads", [
+        fuller("T and F, T impl F, not F, T or F, each with a QNot of its dst",
+               "2C010002 2C020001 41010001000200 3F03000100 2C010002 42010001000200 3F03000100 2C010002 4301000200 3F03000100 2C010002 44010001000200 3F03000100",
+               "2C010002 2C020001 2C010001 2C030002 2C010002 2C010001 2C030002 2C010002 2C010002 2C030001 2C010002 2C010002 2C030001", 8),
+        fuller("and: N with N F T S, S with N F T S",
+               "2C000000 2C010001 2C020002 2C030003 41040000000000 41050000000100 41060000000200 41070000000300 41080003000000 41090003000100 410A0003000200 410B0003000300",
+               "2C000000 2C010001 2C020002 2C030003 2C040000 2C050001 2C060000 2C070001 2C080001 2C090001 2C0A0003 2C0B0003", 8),
+        fuller("and: F with N F T S, T with N F T S",
+               "2C000000 2C010001 2C020002 2C030003 41040001000000 41050001000100 41060001000200 41070001000300 41080002000000 41090002000100 410A0002000200 410B0002000300",
+               "2C000000 2C010001 2C020002 2C030003 2C040001 2C050001 2C060001 2C070001 2C080000 2C090001 2C0A0002 2C0B0003", 8),
+        fuller("or: N with N F T S, S with N F T S",
+               "2C000000 2C010001 2C020002 2C030003 44040000000000 44050000000100 44060000000200 44070000000300 44080003000000 44090003000100 440A0003000200 440B0003000300",
+               "2C000000 2C010001 2C020002 2C030003 2C040000 2C050000 2C060002 2C070002 2C080002 2C090003 2C0A0002 2C0B0003", 8),
+        fuller("or: F with N F T S, T with N F T S",
+               "2C000000 2C010001 2C020002 2C030003 44040001000000 44050001000100 44060001000200 44070001000300 44080002000000 44090002000100 440A0002000200 440B0002000300",
+               "2C000000 2C010001 2C020002 2C030003 2C040000 2C050001 2C060002 2C070003 2C080002 2C090002 2C0A0002 2C0B0002", 8),
+        fuller("impl: N with N F T S, S with N F T S",
+               "2C000000 2C010001 2C020002 2C030003 42040000000000 42050000000100 42060000000200 42070000000300 42080003000000 42090003000100 420A0003000200 420B0003000300",
+               "2C000000 2C010001 2C020002 2C030003 2C040000 2C050000 2C060002 2C070002 2C080002 2C090003 2C0A0002 2C0B0003", 8),
+        fuller("impl: F with N F T S, T with N F T S",
+               "2C000000 2C010001 2C020002 2C030003 42040001000000 42050001000100 42060001000200 42070001000300 42080002000000 42090002000100 420A0002000200 420B0002000300",
+               "2C000000 2C010001 2C020002 2C030003 2C040002 2C050002 2C060002 2C070002 2C080000 2C090001 2C0A0002 2C0B0003", 8),
+        fuller("not of N F T S",
+               "2C000000 2C010001 2C020002 2C030003 4304000000 4305000100 4306000200 4307000300",
+               "2C000000 2C010001 2C020002 2C030003 2C040000 2C050002 2C060001 2C070003", 4),
+        fuller("a chain: T and S is S, QAnd of S and T is T, not T is F", "2C010002 2C020003 41030001000200 3D040003000100 4305000400 0C010500",
+               "2C010002 2C020003 2C030003 2C040002 2C050001 0C010500", 3),
+        fuller("one register for all", "2C010003 41010001000100 44010001000100 42010001000100 4301000100", "2C010003 2C010003 2C010003 2C010003 2C010003", 4),
+        good("beside commands that both fold", function("2C010002 2C020001 44030001000200 3D040001000200 19050001000200"),
+             crystalfold=(function("2C010002 2C020001 44030001000200 2C040000 28050000"), 2),
+             rewrite=(function("2C010002 2C020001 44030001000200 2C040000 28050000"), 2),
+             fuller=(function("2C010002 2C020001 2C030002 2C040000 28050000"), 3)),
+        good("behind what cleanup removes", "F0070005 0A0100 0A0100 2C010001 2C010002 4302000100",
+             cleanup=("F0070003 0A0100 2C010002 4302000100", 2), rewrite=("F0070003 0A0100 2C010002 4302000100", 2),
+             fuller=("F0070003 0A0100 2C010002 2C020001", 3)),
+        good("in the second function", "F0070002 2C010002 3F02000100 F0080002 2C010002 4302000100",
+             crystalfold=("F0070002 2C010002 2C020001 F0080002 2C010002 4302000100", 1),
+             rewrite=("F0070002 2C010002 2C020001 F0080002 2C010002 4302000100", 1),
+             fuller=("F0070002 2C010002 2C020001 F0080002 2C010002 2C020001", 2)),
+        kept("one operand unknown, though the other decides", "2C010001 41030001000200 41040002000100 2C010002 44030001000200 44040002000100 42050002000100 4306000200"),
+        kept("of another kind", "2C010002 28020001 41030001000200 41040002000100 42050001000200 42060002000100 44070001000200 44080002000100 4309000200"),
+        kept("behind a barrier", "2C010002 0A0100 4302000100 2C010002 030500 41030001000100"),
     ]),
     ("fold, comparisons", [
         folded("I32 comparisons",
@@ -522,7 +572,7 @@ def records(groups):
 
 
 def sampled():
-    """The original's answers in groups, by operation or refusal; both checks answer by them too."""
+    """The sample's answers in groups, by operation or refusal; both checks answer by them too."""
     with open(SAMPLE, "rb") as file:
         data = file.read().split(b"\n", 1)[1]
     groups, at = collections.defaultdict(list), 2
@@ -533,12 +583,12 @@ def sampled():
             length, rewrites, changed = struct.unpack_from("<HIB", data, at + 1)
             assert changed == (rewrites > 0)
             answer, sites, at = (data[at + 8:at + 8 + length], rewrites), ("", 0), at + 8 + length
-            group = ("the whole rewrite", "cleanup", "CrystalFold")[operation]
+            group = ("the whole rewrite", "cleanup", "CrystalFold", "the fuller rewrite")[operation]
         else:
             answer = sites = struct.unpack_from("<BHI", data, at + 1)
             assert 11 <= answer[0]
             group, at = "refusal %d" % answer[0], at + 8
-        operation = (REWRITE, CLEANUP, CRYSTALFOLD)[operation]
+        operation = (REWRITE, CLEANUP, CRYSTALFOLD, FULLER)[operation]
         groups[group].append(Row("case %d" % number, image, {IMAGE_CHECK: ("", 0), SITE_CHECK: sites, operation: answer}))
     assert at == len(data)
     return [("sample, " + group, groups[group]) for group in sorted(groups, key=str.upper)]

@@ -3,7 +3,7 @@
 
 Expected values come from exact arithmetic. A binary64 operand is decoded to a fraction, the operation is done on
 fractions.Fraction, and the result is rounded once to nearest, ties to even, by `encode` below. Python's own float
-arithmetic isn't used. I32, U32 and Fx values are Python integers; quads follow from Belnap's order alone.
+arithmetic isn't used. I32, U32 and Fx values are Python integers; quads follow from Belnap's two orders alone.
 The seed is fixed: two runs write the same files.
 """
 import os
@@ -321,32 +321,41 @@ def integers(rng, kind, name, operation, edges, low, high):
     return rows
 
 
-# ---- quads, from the approximation order alone: N below F and T, both below S
+# ---- quads, from the orders alone: in the approximation order N is below F and T, both below S; in the truth order F is below N and S, both below T
 
 N, F, T, S = range(4)
-BELOW = {(N, x) for x in range(4)} | {(x, S) for x in range(4)} | {(x, x) for x in range(4)}
 
 
-def greatest_lower(a, b):
-    lower = [x for x in range(4) if (x, a) in BELOW and (x, b) in BELOW]
-    return next(x for x in lower if all((y, x) in BELOW for y in lower))
+def order(least, greatest):
+    return {(least, x) for x in range(4)} | {(x, greatest) for x in range(4)} | {(x, x) for x in range(4)}
 
 
-def least_upper(a, b):
-    upper = [x for x in range(4) if (a, x) in BELOW and (b, x) in BELOW]
-    return next(x for x in upper if all((x, y) in BELOW for y in upper))
+def greatest_lower(below, a, b):
+    lower = [x for x in range(4) if (x, a) in below and (x, b) in below]
+    return next(x for x in lower if all((y, x) in below for y in lower))
+
+
+def least_upper(below, a, b):
+    upper = [x for x in range(4) if (a, x) in below and (b, x) in below]
+    return next(x for x in upper if all((x, y) in below for y in upper))
 
 
 def exchanged(a):
     return {F: T, T: F}.get(a, a)
 
 
-QUAD = [
-    ("and", greatest_lower),
-    ("or", least_upper),
-    ("impl", lambda a, b: least_upper(exchanged(a), b)),
-]
-assert greatest_lower(T, F) == N and least_upper(T, F) == S and QUAD[2][1](F, N) == T
+def quad(below):
+    return [
+        ("and", lambda a, b: greatest_lower(below, a, b)),
+        ("or", lambda a, b: least_upper(below, a, b)),
+        ("impl", lambda a, b: least_upper(below, exchanged(a), b)),
+    ]
+
+
+QUAD = quad(order(N, S))
+TRUTH = quad(order(F, T))
+assert QUAD[0][1](T, F) == N and QUAD[1][1](T, F) == S and QUAD[2][1](F, N) == T
+assert TRUTH[0][1](N, S) == F and TRUTH[1][1](N, S) == T and TRUTH[2][1](F, N) == T
 
 # ---- equality of constants: of one kind by its bits, and of two kinds, numbered as ConstVal's cases are
 
@@ -420,6 +429,9 @@ def main():
     for leaf, (name, operation) in enumerate(QUAD, 1):
         group("quad", leaf, "quad " + name, [(a, b, 1, operation(a, b)) for a in range(4) for b in range(4)])
     group("quad", 4, "quad not", [(a, 0, 1, exchanged(a)) for a in range(4)])
+    for leaf, (name, operation) in enumerate(TRUTH, 5):
+        group("quad", leaf, "quad truth " + name, [(a, b, 1, operation(a, b)) for a in range(4) for b in range(4)])
+    group("quad", 8, "quad truth not", [(a, 0, 1, exchanged(a)) for a in range(4)])
     numbers = (0, 1, 2, 3, 4, 5, 6, 7, 128, 252, 254, 255)
     group("quad", 0, "quad number", [(n, 0, int(n < 4), n if n < 4 else 0) for n in numbers])
     for leaf, (name, operation) in enumerate((("and", lambda a, b: a & b), ("or", lambda a, b: a | b)), 1):

@@ -1,4 +1,4 @@
--- Promise: what the five operations promise: s is the image, `before` and `after` are what the lent output holds at entry and at exit, `number` is the
+-- Promise: what the operations promise: s is the image, `before` and `after` are what the lent output holds at entry and at exit, `number` is the
 -- value returned, and `first` and `second` are what stands behind the two references at exit.
 use Prim.Native.Nat.{ℕ, _≤_}
 use mathlib.Core.Path.{_≡_}

@@ -1,4 +1,4 @@
--- Promise: the answers of the five operations as three numbers. 0 and what a success holds; or document 01's number of the refusal, the function's
+-- Promise: the answers of the operations as three numbers. 0 and what a success holds; or document 01's number of the refusal, the function's
 -- position and the detail.
 use Prim.Native.Nat.{ℕ}
 use Rattle.cells.specs.Refusals.{numbersOf}

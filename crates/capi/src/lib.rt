@@ -1,9 +1,9 @@
-// The five operations for C and Rust: answers are numbers, and two of them are written through references.
+// The operations for C and Rust: answers are numbers, and two of them are written through references.
 use cells::refusal;
 use cells::refusal::Checked;
 use passes::Rewrite;
 ghost use mathlib.Core.Path.{_≡_};
-ghost use Rattle.crystalfold.specs.declared.rules.RuleSet.the-variants.{Default};
+ghost use Rattle.crystalfold.specs.declared.rules.RuleSet.the-variants.{Default, Fuller};
 ghost use Rattle.passes.specs.declared.Pass.the-variants.{Cleanup, CrystalFold};
 ghost use Rattle.capi.specs.Replies.{refusalReply, checkReply, rewriteReply};
 ghost use Rattle.capi.specs.Contracts.{ImageReplied, SitesReplied, PassReplied, RewriteReplied};
@@ -88,6 +88,22 @@ pub extern "C" fn matchdesk_rewrite(
     ensures { λ r. ⌜ RewriteReplied Default (now (image .entry)) (now (out .entry)) (now (out .exit)) r (now (first .exit)) (now (second .exit)) ⌝ }
 {
     let r = reply_of_rewrite(passes::run_default_opt_passes(image, out));
+    *first = r.first;
+    *second = r.second;
+    r.number
+}
+
+// The fuller rewrite, answered as cleanup.
+#[no_mangle]
+pub extern "C" fn matchdesk_rewrite_fuller(
+    image: &[u8],
+    out: &mut [u8],
+    first: &mut usize,
+    second: &mut usize,
+) -> usize
+    ensures { λ r. ⌜ RewriteReplied Fuller (now (image .entry)) (now (out .entry)) (now (out .exit)) r (now (first .exit)) (now (second .exit)) ⌝ }
+{
+    let r = reply_of_rewrite(passes::run_fuller_opt_passes(image, out));
     *first = r.first;
     *second = r.second;
     r.number

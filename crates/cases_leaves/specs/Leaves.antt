@@ -14,7 +14,7 @@ use Rattle.leaves.specs.Float.{floatOf, bitsOf, addF64, subF64, mulF64, divF64}
 use Rattle.leaves.specs.Signed.{addI32, subI32, mulI32, divI32, modI32}
 use Rattle.leaves.specs.Unsigned.{addU32, subU32, mulU32, divU32, modU32}
 use Rattle.leaves.specs.Fixed.{addFx, subFx, mulFx, divFx}
-use Rattle.leaves.specs.Quads.{qAnd, qOr, qImpl, qNot, quadOf, numberOf}
+use Rattle.leaves.specs.Quads.{qAnd, qOr, qImpl, qNot, qTruthAnd, qTruthOr, qTruthImpl, qTruthNot, quadOf, numberOf}
 use Rattle.leaves.specs.Constants.{constEq, onF64, onI32, onU32, onFx}
 use Rattle.leaves.specs.declared.verdict.Verdict.{Verdict}
 use Rattle.leaves.specs.declared.verdict.Verdict.the-variants.{Value as ValueV, LeftUnknown, RightUnknown, Unfit, NoResult, NotComputed}
@@ -99,9 +99,15 @@ u32Leaf n a b = pick (NoLeaf ∷ ofVerdict u32Bits (addU32 a b) ∷ ofVerdict u3
 abbrev pub fxLeaf : ℕ → ℤ → ℤ → Answer
 fxLeaf n a b = pick (NoLeaf ∷ ofVerdict fxBits (addFx a b) ∷ ofVerdict fxBits (subFx a b) ∷ ofVerdict fxBits (mulFx a b) ∷ ofVerdict fxBits (divFx a b) ∷ []) n
 
--- 0 reads a quad from a number; QNot has one operand, the left
+-- 0 reads a quad from a number; QNot and QTruthNot have one operand, the left
 abbrev pub quadLeaf : ℕ → ℕ → ℕ → Answer
-quadLeaf n a b = pick (ofNumber (quadOf (a % 256)) ∷ ofQuad (qAnd (quadAt a) (quadAt b)) ∷ ofQuad (qOr (quadAt a) (quadAt b)) ∷ ofQuad (qImpl (quadAt a) (quadAt b)) ∷ ofQuad (qNot (quadAt a)) ∷ []) n
+quadLeaf n a b =
+    pick (
+    ofNumber (quadOf (a % 256))
+    ∷ ofQuad (qAnd (quadAt a) (quadAt b)) ∷ ofQuad (qOr (quadAt a) (quadAt b)) ∷ ofQuad (qImpl (quadAt a) (quadAt b)) ∷ ofQuad (qNot (quadAt a))
+    ∷ ofQuad (qTruthAnd (quadAt a) (quadAt b)) ∷ ofQuad (qTruthOr (quadAt a) (quadAt b)) ∷ ofQuad (qTruthImpl (quadAt a) (quadAt b)) ∷ ofQuad (qTruthNot (quadAt a))
+    ∷ []
+    ) n
 
 -- BoolNot has one operand, the left
 abbrev pub boolLeaf : ℕ → Bool → Bool → Answer

@@ -98,7 +98,7 @@ fn fx_leaf(leaf: u64, a: i32, b: i32) -> Answer
     }
 }
 
-// 0 reads a quad from a number. QNot has one operand, the left.
+// 0 reads a quad from a number. QNot and QTruthNot have one operand, the left.
 fn quad_leaf(leaf: u64, a: u64, b: u64) -> Answer
     ensures { λ r. ⌜ r ≡ quadLeaf leaf a b ⌝ }
 {
@@ -108,6 +108,10 @@ fn quad_leaf(leaf: u64, a: u64, b: u64) -> Answer
         2 => of_quad(quad::qor(quad_of(a), quad_of(b))),
         3 => of_quad(quad::qimpl(quad_of(a), quad_of(b))),
         4 => of_quad(quad::qnot(quad_of(a))),
+        5 => of_quad(quad::qtruth_and(quad_of(a), quad_of(b))),
+        6 => of_quad(quad::qtruth_or(quad_of(a), quad_of(b))),
+        7 => of_quad(quad::qtruth_impl(quad_of(a), quad_of(b))),
+        8 => of_quad(quad::qtruth_not(quad_of(a))),
         _ => Answer::NoLeaf,
     }
 }

@@ -1,4 +1,4 @@
--- Inner: the operations of document 01 by their bytes in a file of cases (tests/images/README.md), what each answers by the document's numbers, and what
+-- Inner: the operations of documents 01 and 02 by their bytes in a file of cases (tests/images/README.md), what each answers by the document's numbers, and what
 -- it leaves in a lent output.
 use Prim.Native.Nat.{ℕ}
 use mathlib.Core.List.{List}
@@ -9,7 +9,7 @@ use Rattle.cells.specs.Refusals.{numbersOf}
 use Rattle.cells.specs.declared.refusal.Numbers.{Numbers}
 use Rattle.cells.specs.declared.refusal.Checked.{Checked}
 use Rattle.cells.specs.declared.refusal.Checked.the-variants.{Good, Refused as RefusedBy}
-use Rattle.crystalfold.specs.declared.rules.RuleSet.the-variants.{Default as DefaultRules}
+use Rattle.crystalfold.specs.declared.rules.RuleSet.the-variants.{Default as DefaultRules, Fuller as FullerRules}
 use Rattle.image.specs.Image.{imageAnswer}
 use Rattle.image.specs.SiteCheck.{siteAnswer}
 use Rattle.passes.specs.Passes.{passAnswer, passOutput}
@@ -17,13 +17,19 @@ use Rattle.passes.specs.declared.Pass.the-variants.{Cleanup as CleanupPass, Cry
 use Rattle.passes.specs.declared.Rewrite.{Rewrite}
 use Rattle.passes.specs.declared.Rewrite.the-variants.{Written, Refused}
 use Rattle.cases_passes.specs.declared.operation.Operation.{Operation}
-use Rattle.cases_passes.specs.declared.operation.Operation.the-variants.{ImageCheck, SiteCheck, Cleanup, CrystalFold, Default}
+use Rattle.cases_passes.specs.declared.operation.Operation.the-variants.{ImageCheck, SiteCheck, Cleanup, CrystalFold, Default, Fuller}
 use Rattle.cases_passes.specs.declared.operation.Asked.{Asked}
 use Rattle.cases_passes.specs.declared.operation.Asked.the-variants.{Run, Unknown}
 use Rattle.cases_passes.specs.declared.operation.Reply.{Reply}
 
 unfoldable pub askedBy : ℕ → Asked
-askedBy n = cond (eqb n 16) (Run ImageCheck) (cond (eqb n 17) (Run SiteCheck) (cond (eqb n 18) (Run Cleanup) (cond (eqb n 19) (Run CrystalFold) (cond (eqb n 20) (Run Default) Unknown))))
+askedBy n =
+    cond (eqb n 16) (Run ImageCheck)
+    (cond (eqb n 17) (Run SiteCheck)
+    (cond (eqb n 18) (Run Cleanup)
+    (cond (eqb n 19) (Run CrystalFold)
+    (cond (eqb n 20) (Run Default)
+    (cond (eqb n 21) (Run Fuller) Unknown)))))
 
 -- "success gives the length written and the report"; "the two checks .. on success answer only that"
 abbrev pub goodReply : ℕ → ℕ → Bool → Reply
@@ -47,6 +53,7 @@ answer SiteCheck s n = checkReply (siteAnswer s)
 answer Cleanup s n = rewriteReply (passAnswer CleanupPass s n)
 answer CrystalFold s n = rewriteReply (passAnswer (CrystalFoldPass DefaultRules) s n)
 answer Default s n = rewriteReply (passAnswer (Both DefaultRules) s n)
+answer Fuller s n = rewriteReply (passAnswer (Both FullerRules) s n)
 
 -- what the lent bytes then are; "the two checks write nothing"
 abbrev pub output : Operation → List ℕ → List ℕ → List ℕ
@@ -55,3 +62,4 @@ output SiteCheck s before = before
 output Cleanup s before = passOutput CleanupPass s before
 output CrystalFold s before = passOutput (CrystalFoldPass DefaultRules) s before
 output Default s before = passOutput (Both DefaultRules) s before
+output Fuller s before = passOutput (Both FullerRules) s before

@@ -16,6 +16,7 @@ pub enum Operation {
     Cleanup,
     CrystalFold,
     Default,
+    Fuller,
 }
 
 // What a byte asks for.
@@ -43,6 +44,7 @@ pub fn asked_by(byte: u8) -> Asked
         18 => Asked::Run(Operation::Cleanup),
         19 => Asked::Run(Operation::CrystalFold),
         20 => Asked::Run(Operation::Default),
+        21 => Asked::Run(Operation::Fuller),
         _ => Asked::Unknown,
     }
 }
@@ -58,6 +60,7 @@ pub fn run(operation: Operation, image: &[u8], out: &mut [u8]) -> Reply
         Operation::Cleanup => of_rewrite(passes::cleanup(image, out)),
         Operation::CrystalFold => of_rewrite(passes::crystalfold(image, out)),
         Operation::Default => of_rewrite(passes::run_default_opt_passes(image, out)),
+        Operation::Fuller => of_rewrite(passes::run_fuller_opt_passes(image, out)),
     }
 }
 

@@ -63,8 +63,20 @@ CmpEq = binary 0x19
 abbrev pub CmpNe : ℕ → ℕ → ℕ → Cell
 CmpNe = binary 0x23
 
+abbrev pub QAnd : ℕ → ℕ → ℕ → Cell
+QAnd = binary 0x3D
+
 abbrev pub QTruthAnd : ℕ → ℕ → ℕ → Cell
 QTruthAnd = binary 0x41
+
+abbrev pub QTruthImpl : ℕ → ℕ → ℕ → Cell
+QTruthImpl = binary 0x42
+
+abbrev pub QTruthNot : ℕ → ℕ → Cell
+QTruthNot = unary 0x43
+
+abbrev pub QTruthOr : ℕ → ℕ → ℕ → Cell
+QTruthOr = binary 0x44
 
 -- ---- outside actions: Assert src · Call dst 9, with and without a dst · ClockRead dst
 

@@ -4,16 +4,11 @@ use mathlib.Core.Bool.{Bool, true, cond}
 use mathlib.Core.List.{List, [], _∷_, map}
 use Prim.Native.Nat.{ℕ}
 use Rattle.leaves.specs.declared.quad.Quad.{Quad}
-use Rattle.leaves.specs.declared.constant.ConstVal.{ConstVal}
 use Rattle.leaves.specs.declared.constant.ConstVal.the-variants.{Quad as QuadV, Bool as BoolV}
 use Rattle.leaves.specs.declared.verdict.Verdict.{Verdict}
 use Rattle.leaves.specs.declared.verdict.Verdict.the-variants.{Value, NotComputed}
 use Rattle.cells.proofs.Facts.{and-true, T-of}
 use Rattle.cells.proofs.Matches.{Missed, listed, covered, singly, missed-test}
-use Rattle.machine.specs.Evaluate.{evaluate}
-use Rattle.crystalfold.specs.declared.rules.RuleSet.{RuleSet}
-use Rattle.crystalfold.specs.declared.rules.RuleSet.the-variants.{Default}
-use Rattle.crystalfold.specs.Rules.{defaultRules, rulesOf}
 use Rattle.crystalfold.specs.Arms.{Choice, chosen, Leaves, leafOf}
 
 -- the answers of leaves that have one at any two
@@ -42,8 +37,3 @@ not-chosen {B} d all o m = go all
 
 pub no-leaf : {A : Type 0} (cs : Leaves A) (o : ℕ) (a b : A) → Missed (singly (keys cs)) o → covered (singly (keys cs)) (keys cs) ≡ true → NotComputed ≡ leafOf o cs a b
 no-leaf {A} cs o a b m c = sym (ap (λ (g : A → A → Verdict). g a b) (not-chosen (λ (a b : A). NotComputed) cs o m c))
-
--- ---- the rule set: there is one
-
-pub by-default : (s : RuleSet) (o : ℕ) (l r : ConstVal) → evaluate (defaultRules o) l r ≡ evaluate (rulesOf s o) l r
-by-default Default o l r = refl

@@ -17,8 +17,8 @@ use Rattle.machine.specs.Values.{valueOf, writtenOf}
 use Rattle.machine.specs.Evaluate.{Meaning, evaluate, Means, lookUp}
 use Rattle.machine.specs.Compute.{meanings, meaning, value, result, outcome, atOther, compute}
 use Rattle.crystalfold.specs.declared.rules.RuleSet.{RuleSet}
-use Rattle.crystalfold.specs.declared.rules.RuleSet.the-variants.{Default}
-use Rattle.crystalfold.specs.Rules.{Rules, Sound, defaultTable, defaultRules, rulesOf}
+use Rattle.crystalfold.specs.declared.rules.RuleSet.the-variants.{Default, Fuller}
+use Rattle.crystalfold.specs.Rules.{Rules, Sound, defaultTable, defaultRules, fullerTable, fullerRules, rulesOf}
 
 -- ---- of an operand that isn't known there is no value
 
@@ -80,5 +80,14 @@ default-sound : Sound defaultRules
 unfolding defaultRules
 default-sound = under-sound defaultRules (under-table defaultTable default-rows)
 
+fuller-rows : Rows fullerTable
+unfolding defaultTable fullerTable meaning meanings
+fuller-rows = same-rows fullerTable refl
+
+fuller-sound : Sound fullerRules
+unfolding fullerRules
+fuller-sound = under-sound fullerRules (under-table fullerTable fuller-rows)
+
 pub sound : (s : RuleSet) → Sound (rulesOf s)
 sound Default = default-sound
+sound Fuller = fuller-sound

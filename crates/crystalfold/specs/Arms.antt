@@ -16,7 +16,7 @@ use Rattle.leaves.specs.Float.{addF64, subF64, mulF64, divF64}
 use Rattle.leaves.specs.Signed.{addI32, subI32, mulI32, divI32, modI32}
 use Rattle.leaves.specs.Unsigned.{addU32, subU32, mulU32, divU32, modU32}
 use Rattle.leaves.specs.Fixed.{addFx, subFx, mulFx, divFx}
-use Rattle.leaves.specs.Quads.{qAnd, qOr, qNot, qImpl}
+use Rattle.leaves.specs.Quads.{qAnd, qOr, qNot, qImpl, qTruthAnd, qTruthOr, qTruthNot, qTruthImpl}
 
 -- a command and what an arm has for it
 pub record Choice (B : Type 0) : Type 0 where
@@ -79,6 +79,10 @@ quadLeaves =
     choice 0x3E (λ (a b : Quad). Value (QuadV (qImpl a b))) ∷
     choice 0x3F (λ (a b : Quad). Value (QuadV (qNot a))) ∷
     choice 0x40 (λ (a b : Quad). Value (QuadV (qOr a b))) ∷
+    choice 0x41 (λ (a b : Quad). Value (QuadV (qTruthAnd a b))) ∷
+    choice 0x42 (λ (a b : Quad). Value (QuadV (qTruthImpl a b))) ∷
+    choice 0x43 (λ (a b : Quad). Value (QuadV (qTruthNot a))) ∷
+    choice 0x44 (λ (a b : Quad). Value (QuadV (qTruthOr a b))) ∷
     []
 
 -- of any two known values

@@ -14,14 +14,14 @@ use Rattle.leaves.specs.Float.{addF64, subF64, mulF64, divF64}
 use Rattle.leaves.specs.Signed.{addI32, subI32, mulI32, divI32, modI32}
 use Rattle.leaves.specs.Unsigned.{addU32, subU32, mulU32, divU32, modU32}
 use Rattle.leaves.specs.Fixed.{addFx, subFx, mulFx, divFx}
-use Rattle.leaves.specs.Quads.{qAnd, qOr, qNot, qImpl}
+use Rattle.leaves.specs.Quads.{qAnd, qOr, qNot, qImpl, qTruthAnd, qTruthOr, qTruthNot, qTruthImpl}
 use Rattle.leaves.specs.Verdicts.{valueIn}
 use Rattle.cells.specs.Ins.{Const}
 use Rattle.machine.specs.Values.{con, valueOf, writtenOf}
 use Rattle.machine.specs.Evaluate.{Meaning, twoI32, twoU32, twoFx, twoF64, equality, i32Test, u32Test, bools, quads, Means, means, lookUp, evaluate}
 use Rattle.machine.specs.Compute.{value, compute}
 use Rattle.crystalfold.specs.declared.rules.RuleSet.{RuleSet}
-use Rattle.crystalfold.specs.declared.rules.RuleSet.the-variants.{Default}
+use Rattle.crystalfold.specs.declared.rules.RuleSet.the-variants.{Default, Fuller}
 
 -- the meanings of the commands that are folded
 abbrev pub Rules : Type 0
@@ -86,5 +86,20 @@ defaultTable =
 unfoldable pub defaultRules : Rules
 defaultRules o = lookUp o defaultTable
 
+-- the fuller rules (document 02, W2): "the Rust's rules plus these four"
+unfoldable pub fullerTable : List Means
+fullerTable =
+    -- "They follow Belnap's logical order"; "And is the greatest lower bound, or the least upper bound, not exchanges F and T, impl is or of not-left
+    -- with right"
+    means 0x41 (quads qTruthAnd) ∷  -- QTruthAnd
+    means 0x42 (quads qTruthImpl) ∷  -- QTruthImpl
+    means 0x43 (quads (λ (a b : Quad). qTruthNot a)) ∷  -- QTruthNot
+    means 0x44 (quads qTruthOr) ∷  -- QTruthOr
+    defaultTable
+
+unfoldable pub fullerRules : Rules
+fullerRules o = lookUp o fullerTable
+
 abbrev pub rulesOf : RuleSet → Rules
 rulesOf Default = defaultRules
+rulesOf Fuller = fullerRules

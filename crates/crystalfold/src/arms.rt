@@ -3,7 +3,7 @@ ghost use mathlib.Core.Path.{_≡_};
 ghost use mathlib.Core.Option.{some};
 ghost use Rattle.leaves.specs.Verdicts.{ifKnown};
 ghost use Rattle.machine.specs.Evaluate.{twoF64, twoFx, twoI32, twoU32, twoBool, twoQuad, evaluate};
-ghost use Rattle.crystalfold.specs.Rules.{rulesOf, defaultRules};
+ghost use Rattle.crystalfold.specs.Rules.{rulesOf, defaultRules, fullerRules};
 ghost use Rattle.crystalfold.specs.Arms.{leafOf, f64Leaves, fxLeaves, i32Leaves, u32Leaves, boolLeaves, quadLeaves, equalityLeaves};
 use crate::rules::RuleSet;
 use leaves::compare;
@@ -22,6 +22,20 @@ pub fn fold_value(rules: RuleSet, op: u8, left: ConstVal, right: ConstVal) -> Ve
 {
     match rules {
         RuleSet::Default => fold_default(op, left, right),
+        RuleSet::Fuller => fold_fuller(op, left, right),
+    }
+}
+
+// The truth-order quads, and the 31 commands.
+fn fold_fuller(op: u8, left: ConstVal, right: ConstVal) -> Verdict
+    ensures { λ r. ⌜ r ≡ evaluate (fullerRules op) left right ⌝ }
+{
+    match op {
+        0x41 => fold_quad(op, left, right),
+        0x42 => fold_quad(op, left, right),
+        0x43 => fold_quad(op, left, right),
+        0x44 => fold_quad(op, left, right),
+        _ => fold_default(op, left, right),
     }
 }
 
@@ -165,7 +179,7 @@ fn fold_bool(op: u8, left: ConstVal, right: ConstVal) -> Verdict
     }
 }
 
-// QAnd, QImpl, QNot, QOr
+// QAnd, QImpl, QNot, QOr, QTruthAnd, QTruthImpl, QTruthNot, QTruthOr
 fn fold_quad(op: u8, left: ConstVal, right: ConstVal) -> Verdict
     ensures { λ r. ⌜ r ≡ evaluate (some (twoQuad (leafOf op quadLeaves))) left right ⌝ }
 {
@@ -180,6 +194,10 @@ fn fold_quad(op: u8, left: ConstVal, right: ConstVal) -> Verdict
         0x3E => Verdict::Value(ConstVal::Quad(quad::qimpl(a, b))),
         0x3F => Verdict::Value(ConstVal::Quad(quad::qnot(a))),
         0x40 => Verdict::Value(ConstVal::Quad(quad::qor(a, b))),
+        0x41 => Verdict::Value(ConstVal::Quad(quad::qtruth_and(a, b))),
+        0x42 => Verdict::Value(ConstVal::Quad(quad::qtruth_impl(a, b))),
+        0x43 => Verdict::Value(ConstVal::Quad(quad::qtruth_not(a))),
+        0x44 => Verdict::Value(ConstVal::Quad(quad::qtruth_or(a, b))),
         _ => Verdict::NotComputed,
     }
 }

@@ -17,9 +17,6 @@ use borrow.Author.Tests.{ltb-true, leb-true, eqb-true, eqb-false, lt-ltb, le-ltb
 use mir.Syntax.{w32}
 use mir.Val.{SFits, ofZ, toZ}
 use mir.Facts.{toZ-ofZ, ofZ-toZ, sfits-toZ}
-use Rattle.leaves.specs.declared.quad.Quad.{Quad}
-use Rattle.leaves.specs.declared.quad.Quad.the-variants.{N, F, T, S}
-use Rattle.leaves.specs.declared.quad.QuadResult.the-variants.{Value as ValueQ, Absent as AbsentQ}
 use Rattle.leaves.specs.declared.constant.ConstVal.the-variants.{I32, U32, Fx}
 use Rattle.leaves.specs.declared.verdict.Verdict.{Verdict}
 use Rattle.leaves.specs.declared.verdict.Verdict.the-variants.{Value, NoResult}
@@ -27,7 +24,6 @@ use Rattle.leaves.specs.Signed.{residue, wrap, inI32, isZero, sameZ, che
 use Rattle.leaves.specs.Unsigned.{addU32, subU32, mulU32, divU32, modU32}
 use Rattle.leaves.specs.Fixed.{fxScale, addFx, subFx, mulFx, divFx}
 use Rattle.leaves.specs.Float.{floatOf, bitsOf}
-use Rattle.leaves.specs.Quads.{below, qAnd, qOr, qNot, qSame, quadOf, numberOf}
 use Rattle.leaves.proofs.Integers.{less-or-not, sub-pos, sub-neg}
 use Rattle.leaves.proofs.Division as Division
 use Rattle.leaves.proofs.Division.{in-range-but-one}
@@ -238,60 +234,3 @@ unfolding floatOf bitsOf Ieee.toBits
 written-nan x h l =
     let e : x ≡ nan = sym (back x h) ∙ above (bitsOf x) l in
     ap bitsOf e
-
--- ---- quads
-
--- a test at all four
-abbrev every : (Quad → Bool) → Bool
-every f = f N && f F && f T && f S
-
-and-l : (a b : Bool) → Dec.T (a && b) → Dec.T a
-and-l true b t = tt
-and-l false b t = t
-
-and-r : (a b : Bool) → Dec.T (a && b) → Dec.T b
-and-r true b t = t
-and-r false b t = absurd t
-
-every-at : (f : Quad → Bool) → Dec.T (every f) → (q : Quad) → Dec.T (f q)
-every-at f t N = and-l (f N) (f F) (and-l (f N && f F) (f T) (and-l (f N && f F && f T) (f S) t))
-every-at f t F = and-r (f N) (f F) (and-l (f N && f F) (f T) (and-l (f N && f F && f T) (f S) t))
-every-at f t T = and-r (f N && f F) (f T) (and-l (f N && f F && f T) (f S) t)
-every-at f t S = and-r (f N && f F && f T) (f S) t
-
--- a test of three quads that passes at all 64
-every3 : (f : Quad → Quad → Quad → Bool) → Dec.T (every (λ (a : Quad). every (λ (b : Quad). every (f a b)))) → (a b x : Quad) → Dec.T (f a b x)
-every3 f t a b x = every-at (f a b) (every-at (λ (b : Quad). every (f a b)) (every-at (λ (a : Quad). every (λ (b : Quad). every (f a b))) t a) b) x
-
--- QAnd is the greatest lower bound: x is below it exactly when it is below both
-pub meet : (a b x : Quad) → Dec.T (Bool·beq (below x (qAnd a b)) (below x a && below x b))
-meet = every3 (λ (a b x : Quad). Bool·beq (below x (qAnd a b)) (below x a && below x b)) tt
-
--- QOr is the least upper bound: it is below x exactly when both are
-pub join : (a b x : Quad) → Dec.T (Bool·beq (below (qOr a b) x) (below a x && below b x))
-join = every3 (λ (a b x : Quad). Bool·beq (below (qOr a b) x) (below a x && below b x)) tt
-
--- QNot exchanges F and T and keeps N and S
-pub exchanges : map qNot (N ∷ F ∷ T ∷ S ∷ []) ≡ N ∷ T ∷ F ∷ S ∷ []
-exchanges = refl
-
--- two quads are the same exactly when their numbers are
-pub same-number : (a b : Quad) → Dec.T (Bool·beq (qSame a b) (eqb (numberOf a) (numberOf b)))
-same-number a b = every3 (λ (a b x : Quad). Bool·beq (qSame a b) (eqb (numberOf a) (numberOf b))) tt a b N
-
--- a quad's number is read back as the quad
-pub quad-numbered : (q : Quad) → quadOf (numberOf q) ≡ ValueQ q
-unfolding quadOf
-quad-numbered N = refl
-quad-numbered F = refl
-quad-numbered T = refl
-quad-numbered S = refl
-
-pub not-numbered : (n : ℕ) → 3 < n → quadOf n ≡ AbsentQ
-unfolding quadOf
-not-numbered n h = simp (
-  ne-eqb n 0 (λ (e : n ≡ 0). omega arith),
-  ne-eqb n 1 (λ (e : n ≡ 1). omega arith),
-  ne-eqb n 2 (λ (e : n ≡ 2). omega arith),
-  ne-eqb n 3 (λ (e : n ≡ 3). omega arith),
-)

@@ -4,5 +4,6 @@ pub mod Integers
 pub mod Laws
 pub mod Others
 pub mod Product
+pub mod QuadLaws
 pub mod Ranges
 pub mod Results

@@ -1,10 +1,11 @@
--- Worked: Document 01's starred cases that belong to leaves ('Cells on either edge'): one table, and one theorem of all its rows.
--- A row is a command at two known operands and its verdict there.
+-- Worked: document 01's starred cases that belong to leaves ('Cells on either edge'), and document 02's truth-order quads (W2) at every two operands:
+-- a table each, and one theorem of all its rows. A row is a command at two known operands and its verdict there; of the quads, a command at a left
+-- operand and what it gives with each right one.
 --
 use Prim.Native.Nat.{ℕ}
 use mathlib.Core.Path.{_≡_, refl}
-use mathlib.Core.Bool.{true, false}
-use mathlib.Core.List.{List, [], _∷_, map}
+use mathlib.Core.Bool.{Bool, true, false}
+use mathlib.Core.List.{List, [], _∷_, _++_, map}
 use lib.IntN.{ℤ, pos, negsuc}
 use lib.Ieee
 use lib.Ieee as Ieee
@@ -18,7 +19,7 @@ use Rattle.leaves.specs.Signed.{wrap, addI32, divI32, modI32}
 use Rattle.leaves.specs.Unsigned.{subU32}
 use Rattle.leaves.specs.Fixed.{mulFx}
 use Rattle.leaves.specs.Float.{floatOf}
-use Rattle.leaves.specs.Quads.{qAnd, qOr, qImpl}
+use Rattle.leaves.specs.Quads.{Order, meet, join, approxBelow, truthBelow, qAnd, qOr, qNot, qImpl, qTruthAnd, qTruthOr, qTruthNot, qTruthImpl}
 use Rattle.leaves.specs.Constants.{onQuad, onI32, onU32, onFx, constEq}
 
 -- ---- a leaf as a command on two known values
@@ -72,5 +73,73 @@ cases =
     ∷ []
 
 pub cases-hold : map run cases ≡ map (λ (c : LeafCase). c .result) cases
-unfolding wrap addI32 divI32 modI32 subU32 mulFx constEq floatOf Ieee.eq Ieee.ofBits
+unfolding wrap addI32 divI32 modI32 subU32 mulFx constEq floatOf Ieee.eq Ieee.ofBits meet join
 cases-hold = refl
+
+-- ---- the truth order
+
+-- what stands above a quad in an order, itself among them
+abbrev pub above : Order → Quad → List Quad
+above below a = keep (below a N) N ++ keep (below a F) F ++ keep (below a T) T ++ keep (below a S) S
+  where
+    keep : Bool → Quad → List Quad
+    keep true q = q ∷ []
+    keep false q = []
+
+pub record Above : Type 0 where
+  pub order : Order
+  pub quad : Quad
+  pub quads : List Quad
+
+abbrev pub under : Order → Quad → List Quad → Above
+under o q qs = record { order = o; quad = q; quads = qs }
+
+-- "F below N and S, both below T": N and S are not comparable; beside it document 01's "N is below F and T, and both are below S"
+abbrev pub orders : List Above
+orders =
+    under truthBelow F (N ∷ F ∷ T ∷ S ∷ [])
+    ∷ under truthBelow N (N ∷ T ∷ [])
+    ∷ under truthBelow S (T ∷ S ∷ [])
+    ∷ under truthBelow T (T ∷ [])
+    ∷ under approxBelow N (N ∷ F ∷ T ∷ S ∷ [])
+    ∷ under approxBelow F (F ∷ S ∷ [])
+    ∷ under approxBelow T (T ∷ S ∷ [])
+    ∷ under approxBelow S (S ∷ [])
+    ∷ []
+
+pub orders-hold : map (λ (r : Above). above (r .order) (r .quad)) orders ≡ map (λ (r : Above). r .quads) orders
+orders-hold = refl
+
+pub record QuadRow : Type 0 where
+  pub command : Quad → Quad → Quad
+  pub left : Quad
+  pub results : List Quad
+
+-- a left operand's results with N, F, T and S on the right
+abbrev pub with : (Quad → Quad → Quad) → Quad → List Quad → QuadRow
+with f l qs = record { command = f; left = l; results = qs }
+
+abbrev pub quadRows : List QuadRow
+quadRows =
+    with qTruthAnd N (N ∷ F ∷ N ∷ F ∷ [])
+    ∷ with qTruthAnd F (F ∷ F ∷ F ∷ F ∷ [])
+    ∷ with qTruthAnd T (N ∷ F ∷ T ∷ S ∷ [])
+    ∷ with qTruthAnd S (F ∷ F ∷ S ∷ S ∷ [])
+    ∷ with qTruthOr N (N ∷ N ∷ T ∷ T ∷ [])
+    ∷ with qTruthOr F (N ∷ F ∷ T ∷ S ∷ [])
+    ∷ with qTruthOr T (T ∷ T ∷ T ∷ T ∷ [])
+    ∷ with qTruthOr S (T ∷ S ∷ T ∷ S ∷ [])
+    ∷ with qTruthImpl N (N ∷ N ∷ T ∷ T ∷ [])
+    ∷ with qTruthImpl F (T ∷ T ∷ T ∷ T ∷ [])
+    ∷ with qTruthImpl T (N ∷ F ∷ T ∷ S ∷ [])
+    ∷ with qTruthImpl S (T ∷ S ∷ T ∷ S ∷ [])
+    -- of one operand: the right one makes no difference
+    ∷ with (λ (a b : Quad). qTruthNot a) N (N ∷ N ∷ N ∷ N ∷ [])
+    ∷ with (λ (a b : Quad). qTruthNot a) F (T ∷ T ∷ T ∷ T ∷ [])
+    ∷ with (λ (a b : Quad). qTruthNot a) T (F ∷ F ∷ F ∷ F ∷ [])
+    ∷ with (λ (a b : Quad). qTruthNot a) S (S ∷ S ∷ S ∷ S ∷ [])
+    ∷ []
+
+pub quad-rows-hold : map (λ (r : QuadRow). map (r .command (r .left)) (N ∷ F ∷ T ∷ S ∷ [])) quadRows ≡ map (λ (r : QuadRow). r .results) quadRows
+unfolding meet join
+quad-rows-hold = refl

@@ -1,8 +1,8 @@
--- Promise: the quad leaves, of document 01's module 2 (Quad and equality leaves): Belnap's four values in the approximation order.
--- A quad is what has been told: nothing (N), false (F), true (T), or both (S). Less told is below.
+-- Promise: the quad leaves: Belnap's four values in the approximation order (document 01, module 2, Quad and equality leaves) and in the truth order
+-- (document 02, W2). A quad is what has been told: nothing (N), false (F), true (T), or both (S).
 --
 use Prim.Native.Nat.{ℕ}
-use mathlib.Core.Bool.{Bool, true, false, _&&_, _||_, cond, Bool·beq}
+use mathlib.Core.Bool.{Bool, true, false, not, _&&_, _||_, cond, Bool·beq}
 use lib.Dec.{eqb}
 use Rattle.leaves.specs.declared.quad.Quad.{Quad}
 use Rattle.leaves.specs.declared.quad.Quad.the-variants.{N, F, T, S}
@@ -28,29 +28,53 @@ ofTold true false = F
 ofTold false true = T
 ofTold true true = S
 
+-- ---- the bounds of two quads in an order
+
+-- an order: whether the first is below the second, each being below itself
+abbrev pub Order : Type 0
+Order = Quad → Quad → Bool
+
+-- a test at all four
+abbrev pub every : (Quad → Bool) → Bool
+every f = f N && f F && f T && f S
+
+-- whether q is the greatest lower bound of a and b: below both, and whatever is below both is below it
+abbrev pub isMeet : Order → Quad → Quad → Quad → Bool
+isMeet below a b q = below q a && below q b && every (λ (x : Quad). not (below x a && below x b) || below x q)
+
+-- the greatest lower bound: the one of the four that is it
+unfoldable pub meet : Order → Quad → Quad → Quad
+meet below a b = cond (isMeet below a b N) N (cond (isMeet below a b F) F (cond (isMeet below a b T) T S))
+
+-- the least upper bound: the greatest lower bound in the order turned round
+unfoldable pub join : Order → Quad → Quad → Quad
+join below a b = meet (λ (x y : Quad). below y x) a b
+
+-- ---- the approximation order
+
 -- "N is below F and T, and both are below S"
-abbrev pub below : Quad → Quad → Bool
-below N y = true
-below F N = false
-below F F = true
-below F T = false
-below F S = true
-below T N = false
-below T F = false
-below T T = true
-below T S = true
-below S N = false
-below S F = false
-below S T = false
-below S S = true
+abbrev pub approxBelow : Order
+approxBelow N y = true
+approxBelow F N = false
+approxBelow F F = true
+approxBelow F T = false
+approxBelow F S = true
+approxBelow T N = false
+approxBelow T F = false
+approxBelow T T = true
+approxBelow T S = true
+approxBelow S N = false
+approxBelow S F = false
+approxBelow S T = false
+approxBelow S S = true
 
--- "QAnd is the greatest lower bound": what both have been told
+-- "QAnd is the greatest lower bound"
 abbrev pub qAnd : Quad → Quad → Quad
-qAnd a b = ofTold (toldFalse a && toldFalse b) (toldTrue a && toldTrue b)
+qAnd a b = meet approxBelow a b
 
--- "QOr the least upper bound": what either has been told
+-- "QOr the least upper bound"
 abbrev pub qOr : Quad → Quad → Quad
-qOr a b = ofTold (toldFalse a || toldFalse b) (toldTrue a || toldTrue b)
+qOr a b = join approxBelow a b
 
 -- "QNot exchanges F and T"
 abbrev pub qNot : Quad → Quad
@@ -60,9 +84,41 @@ qNot a = ofTold (toldTrue a) (toldFalse a)
 abbrev pub qImpl : Quad → Quad → Quad
 qImpl a b = qOr (qNot a) b
 
--- equality of two quads
-abbrev pub qSame : Quad → Quad → Bool
-qSame a b = Bool·beq (toldFalse a) (toldFalse b) && Bool·beq (toldTrue a) (toldTrue b)
+-- ---- the truth order, "Belnap's logical order"
+
+-- "F below N and S, both below T"
+abbrev pub truthBelow : Order
+truthBelow F y = true
+truthBelow N N = true
+truthBelow N F = false
+truthBelow N T = true
+truthBelow N S = false
+truthBelow S N = false
+truthBelow S F = false
+truthBelow S T = true
+truthBelow S S = true
+truthBelow T N = false
+truthBelow T F = false
+truthBelow T T = true
+truthBelow T S = false
+
+-- "And is the greatest lower bound"
+abbrev pub qTruthAnd : Quad → Quad → Quad
+qTruthAnd a b = meet truthBelow a b
+
+-- "or the least upper bound"
+abbrev pub qTruthOr : Quad → Quad → Quad
+qTruthOr a b = join truthBelow a b
+
+-- "not exchanges F and T", as QNot does
+abbrev pub qTruthNot : Quad → Quad
+qTruthNot a = qNot a
+
+-- "impl is or of not-left with right"
+abbrev pub qTruthImpl : Quad → Quad → Quad
+qTruthImpl a b = qTruthOr (qTruthNot a) b
+
+-- ---- equality and numbers
 
 -- "Quads are N 0, F 1, T 2, S 3"
 abbrev pub numberOf : Quad → ℕ
@@ -70,6 +126,10 @@ numberOf N = 0
 numberOf F = 1
 numberOf T = 2
 numberOf S = 3
+
+-- equality of two quads
+abbrev pub qSame : Quad → Quad → Bool
+qSame a b = Bool·beq (toldFalse a) (toldFalse b) && Bool·beq (toldTrue a) (toldTrue b)
 
 -- the quad of a number; no number above 3 has one
 unfoldable pub quadOf : ℕ → QuadResult

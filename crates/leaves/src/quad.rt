@@ -1,6 +1,6 @@
 // Quad leaves. A quad is what has been told: nothing (N), false (F), true (T) or both (S).
 ghost use mathlib.Core.Path.{_≡_};
-ghost use Rattle.leaves.specs.Quads.{toldFalse, toldTrue, ofTold, qAnd, qOr, qNot, qImpl, qSame, quadOf, numberOf};
+ghost use Rattle.leaves.specs.Quads.{toldFalse, toldTrue, ofTold, qAnd, qOr, qNot, qImpl, qTruthAnd, qTruthOr, qTruthNot, qTruthImpl, qSame, quadOf, numberOf};
 
 pub enum Quad {
     N,
@@ -15,6 +15,7 @@ pub enum QuadResult {
     Absent,
 }
 
+// In the approximation order less told is below: what both, or either, have been told.
 pub fn qand(a: Quad, b: Quad) -> Quad
     ensures { λ r. ⌜ r ≡ qAnd a b ⌝ }
 {
@@ -37,6 +38,31 @@ pub fn qimpl(a: Quad, b: Quad) -> Quad
     ensures { λ r. ⌜ r ≡ qImpl a b ⌝ }
 {
     qor(qnot(a), b)
+}
+
+// In the truth order more told true, and less told false, is above.
+pub fn qtruth_and(a: Quad, b: Quad) -> Quad
+    ensures { λ r. ⌜ r ≡ qTruthAnd a b ⌝ }
+{
+    of_told(told_false(a) | told_false(b), told_true(a) & told_true(b))
+}
+
+pub fn qtruth_or(a: Quad, b: Quad) -> Quad
+    ensures { λ r. ⌜ r ≡ qTruthOr a b ⌝ }
+{
+    of_told(told_false(a) & told_false(b), told_true(a) | told_true(b))
+}
+
+pub fn qtruth_not(a: Quad) -> Quad
+    ensures { λ r. ⌜ r ≡ qTruthNot a ⌝ }
+{
+    qnot(a)
+}
+
+pub fn qtruth_impl(a: Quad, b: Quad) -> Quad
+    ensures { λ r. ⌜ r ≡ qTruthImpl a b ⌝ }
+{
+    qtruth_or(qtruth_not(a), b)
 }
 
 pub fn same(a: Quad, b: Quad) -> bool

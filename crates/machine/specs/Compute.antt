@@ -1,5 +1,6 @@
 -- Promise: what the computed commands come to when a function runs (document 01, modules 1 and 2 and 'How a function runs'): "the Bool, comparison,
--- arithmetic and quad commands of modules 1 and 2 are computed", each through its leaf's definition (leaves/specs).
+-- arithmetic and quad commands of modules 1 and 2 are computed", each through its leaf's definition (leaves/specs). And document 02, W2: "When a
+-- function runs, these four become computed commands", the truth-order quads.
 use mathlib.Core.Bool.{Bool, _&&_, _||_, not}
 use mathlib.Core.Option.{Option, none, some}
 use mathlib.Core.List.{List, [], _∷_}
@@ -13,12 +14,12 @@ use Rattle.leaves.specs.Float.{addF64, subF64, mulF64, divF64}
 use Rattle.leaves.specs.Signed.{addI32, subI32, mulI32, divI32, modI32}
 use Rattle.leaves.specs.Unsigned.{addU32, subU32, mulU32, divU32, modU32}
 use Rattle.leaves.specs.Fixed.{addFx, subFx, mulFx, divFx}
-use Rattle.leaves.specs.Quads.{qAnd, qOr, qNot, qImpl}
+use Rattle.leaves.specs.Quads.{qAnd, qOr, qNot, qImpl, qTruthAnd, qTruthOr, qTruthNot, qTruthImpl}
 use Rattle.cells.specs.Ins.{Const}
 use Rattle.machine.specs.Values.{Value as Held, operand, writtenOf}
 use Rattle.machine.specs.Evaluate.{Meaning, twoI32, twoU32, twoFx, twoF64, twoBool, twoQuad, equality, i32Test, u32Test, bools, quads, Means, means, lookUp, evaluate}
 
--- the 31 computed commands; QTruth commands are not among them
+-- the 35 computed commands
 unfoldable pub meanings : List Means
 meanings =
     means 0x11 (twoF64 addF64) ∷  -- AddF64
@@ -49,6 +50,10 @@ meanings =
     means 0x3E (quads qImpl) ∷  -- QImpl
     means 0x3F (quads (λ (a b : Quad). qNot a)) ∷  -- QNot
     means 0x40 (quads qOr) ∷  -- QOr
+    means 0x41 (quads qTruthAnd) ∷  -- QTruthAnd
+    means 0x42 (quads qTruthImpl) ∷  -- QTruthImpl
+    means 0x43 (quads (λ (a b : Quad). qTruthNot a)) ∷  -- QTruthNot
+    means 0x44 (quads qTruthOr) ∷  -- QTruthOr
     means 0x4E (twoF64 subF64) ∷  -- SubF64
     means 0x4F (twoFx subFx) ∷  -- SubFx
     means 0x50 (twoI32 subI32) ∷  -- SubI32

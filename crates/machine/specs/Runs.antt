@@ -1,5 +1,5 @@
--- Worked: runs: short functions whose records are written out by hand from document 01, 'How a function runs'. One table, and one theorem of
--- all its rows: every cause of an end, every kind of move, and each of the 81 commands.
+-- Worked: runs: short functions whose records are written out by hand from document 01, 'How a function runs', and document 02, W2. One table, and
+-- one theorem of all its rows: every cause of an end, every kind of move, and each of the 81 commands.
 use mathlib.Core.Path.{_≡_, refl}
 use mathlib.Core.Bool.{true, false, cond}
 use mathlib.Core.Option.{none, some}
@@ -13,13 +13,13 @@ use Rattle.leaves.specs.Signed.{wrap, addI32, subI32, mulI32, divI32, modI32}
 use Rattle.leaves.specs.Unsigned.{addU32, subU32, mulU32, divU32, modU32}
 use Rattle.leaves.specs.Fixed.{addFx, subFx, mulFx, divFx}
 use Rattle.leaves.specs.Float.{floatOf, bitsOf, divF64}
-use Rattle.leaves.specs.Quads.{quadOf}
+use Rattle.leaves.specs.Quads.{meet, join, quadOf}
 use Rattle.leaves.specs.Constants.{constEq}
 use Rattle.cells.specs.Cells.{Cell}
 use Rattle.cells.specs.Ins.{Const, quad, bool, f64, i32, u32, fx}
 use Rattle.cells.specs.Table.{rows, classOf}
 use Rattle.cells.specs.View.{view, loadCell}
-use Rattle.cells.specs.Assembler.{cell, Label, Jmp, JmpIf, Ret, RetNothing, LoadBool, LoadF64, LoadFx, LoadI32, LoadQ, LoadU32, binary, unary, AddI32, CmpEq, CmpNe, QTruthAnd, Assert, Call, CallNothing, ClockRead, StoreVar}
+use Rattle.cells.specs.Assembler.{cell, Label, Jmp, JmpIf, Ret, RetNothing, LoadBool, LoadF64, LoadFx, LoadI32, LoadQ, LoadU32, binary, unary, AddI32, CmpEq, CmpNe, Assert, Call, CallNothing, ClockRead, StoreVar}
 use Rattle.machine.specs.Values.{Value, con, other, Regs, set, put, shown}
 use Rattle.machine.specs.Compute.{meanings, meaning, compute}
 use Rattle.machine.specs.Run.{Cause, stopped, unfitOperand, noResult, missingLabel, returned, lastCell, Entry, did, ended, stop, go, Outside, exec, after}
@@ -80,6 +80,9 @@ computes₁ o a v =
 abbrev pub fails : ℕ → Const → Const → Cause → Worked
 fails o a b e =
     worked (loadCell 1 a ∷ loadCell 2 b ∷ binary o 3 1 2 ∷ []) stops 3 (ended e (holding (other 0 ∷ con a ∷ con b ∷ [])) ∷ [])
+
+abbrev pub fails₁ : ℕ → Const → Cause → Worked
+fails₁ o a e = worked (loadCell 1 a ∷ unary o 3 1 ∷ []) stops 2 (ended e (holding (other 0 ∷ con a ∷ [])) ∷ [])
 
 -- commands of two operands, of which one is k and the other one "other": r1 as at the start, then r2
 abbrev pub otherLeft : Const → ℕ → Worked
@@ -174,7 +177,7 @@ runs =
     ∷ did (Assert 1) (holding (other 0 ∷ con (bool true) ∷ []))
     ∷ ended stopped (holding (other 0 ∷ con (bool true) ∷ []))
     ∷ [])
-    -- CmpEq and CmpNe with an "other" operand are outside actions, even of a register with itself; so is QTruthAnd
+    -- CmpEq and CmpNe with an "other" operand are outside actions, even of a register with itself
     ∷ worked (LoadI32 1 0 ∷ CmpEq 2 1 3 ∷ []) counts 2
     (did (CmpEq 2 1 3) (holding (other 0 ∷ con (i32 0) ∷ []))
     ∷ ended lastCell (holding (other 0 ∷ con (i32 0) ∷ con (u32 1) ∷ []))
@@ -189,10 +192,6 @@ runs =
     ∷ [])
     ∷ worked (CmpNe 0 3 3 ∷ []) counts 1 (did (CmpNe 0 3 3) asStarted ∷ ended lastCell (holding (con (u32 1) ∷ [])) ∷ [])
     ∷ worked (CmpEq 0 3 3 ∷ []) counts 1 (did (CmpEq 0 3 3) asStarted ∷ ended lastCell (holding (con (u32 1) ∷ [])) ∷ [])
-    ∷ worked (LoadQ 0 1 ∷ LoadQ 1 2 ∷ QTruthAnd 2 0 1 ∷ []) counts 3
-    (did (QTruthAnd 2 0 1) (holding (con (quad F) ∷ con (quad T) ∷ []))
-    ∷ ended lastCell (holding (con (quad F) ∷ con (quad T) ∷ con (u32 1) ∷ []))
-    ∷ [])
     -- any other computed command with an "other" operand ends the run (each beside a constant: at the end of the table)
     ∷ worked (AddI32 1 1 1 ∷ []) stops 1 (ended unfitOperand asStarted ∷ [])
     -- a computed command may write the register that it reads
@@ -249,6 +248,16 @@ runs =
     ∷ computes 0x3E (quad F) (quad N) (quad T)  -- QImpl
     ∷ computes₁ 0x3F (quad T) (quad F)  -- QNot
     ∷ computes 0x40 (quad T) (quad F) (quad S)  -- QOr
+    ∷ computes 0x41 (quad T) (quad F) (quad F)  -- QTruthAnd
+    ∷ computes 0x41 (quad N) (quad S) (quad F)  -- QTruthAnd of two that can't be compared
+    ∷ computes 0x42 (quad F) (quad N) (quad T)  -- QTruthImpl
+    ∷ computes 0x42 (quad T) (quad N) (quad N)
+    ∷ computes₁ 0x43 (quad T) (quad F)  -- QTruthNot
+    ∷ computes₁ 0x43 (quad F) (quad T)
+    ∷ computes₁ 0x43 (quad N) (quad N)
+    ∷ computes₁ 0x43 (quad S) (quad S)
+    ∷ computes 0x44 (quad F) (quad S) (quad S)  -- QTruthOr
+    ∷ computes 0x44 (quad S) (quad N) (quad T)  -- QTruthOr of two that can't be compared
     ∷ computes 0x4E (f64 0x3FF8000000000000) (f64 0x4004000000000000) (f64 0xBFF0000000000000)  -- SubF64 1.5 2.5 is -1.0
     ∷ computes 0x4F (fx 1000) (fx 2500) (fx 0xFFFFFA24)  -- SubFx 1000 2500 is -1500
     ∷ computes 0x50 (i32 0x80000000) (i32 1) (i32 0x7FFFFFFF)  -- SubI32 wraps
@@ -283,6 +292,14 @@ runs =
     ∷ fails 0x16 (u32 1) (bool true) unfitOperand
     ∷ fails 0x3D (quad T) (bool true) unfitOperand  -- QAnd
     ∷ fails 0x3D (u32 2) (quad T) unfitOperand
+    ∷ fails 0x41 (quad T) (bool true) unfitOperand  -- QTruthAnd
+    ∷ fails 0x41 (u32 2) (quad T) unfitOperand
+    ∷ fails 0x42 (quad F) (i32 0) unfitOperand  -- QTruthImpl
+    ∷ fails 0x42 (bool false) (quad F) unfitOperand
+    ∷ fails 0x44 (quad T) (fx 2) unfitOperand  -- QTruthOr
+    ∷ fails 0x44 (f64 0) (quad T) unfitOperand
+    ∷ fails₁ 0x43 (bool true) unfitOperand  -- QTruthNot
+    ∷ fails₁ 0x43 (u32 2) unfitOperand
     ∷ fails 0x27 (u32 7) (i32 0) unfitOperand  -- DivI32
     -- every other command is an outside action: ClosureCall with and without dst
     ∷ worked (cell (0x04 ∷ 1 ∷ 0 ∷ []) ∷ []) counts 1
@@ -292,8 +309,8 @@ runs =
     ∷ (map answered (0x03 ∷ 0x06 ∷ 0x0D ∷ 0x0E ∷ 0x0F ∷ [])
     -- AdtGet, AdtTag, ConcatText, LoadText, LoadVar, MakeAdt, MakeClosure, MakeRecord, MakeSequence, MakeTuple
     ++ map answered (0x14 ∷ 0x15 ∷ 0x24 ∷ 0x2D ∷ 0x2F ∷ 0x30 ∷ 0x31 ∷ 0x32 ∷ 0x33 ∷ 0x34 ∷ [])
-    -- MapContains, MapEmpty, MapGet, MapSet, QTruthAnd, QTruthImpl, QTruthNot, QTruthOr, RecordGet
-    ++ map answered (0x35 ∷ 0x36 ∷ 0x37 ∷ 0x38 ∷ 0x41 ∷ 0x42 ∷ 0x43 ∷ 0x44 ∷ 0x45 ∷ [])
+    -- MapContains, MapEmpty, MapGet, MapSet, RecordGet
+    ++ map answered (0x35 ∷ 0x36 ∷ 0x37 ∷ 0x38 ∷ 0x45 ∷ [])
     -- SequenceContains, SequenceGet, SequenceIsEmpty, SequenceLen, SequencePop, SequencePrepend, SequencePush, TupleGet
     ++ map answered (0x46 ∷ 0x47 ∷ 0x48 ∷ 0x49 ∷ 0x4A ∷ 0x4B ∷ 0x4C ∷ 0x51 ∷ [])
     -- Assert, EventPost, GateWrite, PulseEmit, StateUpdate, StoreVar
@@ -308,11 +325,11 @@ runs =
     ++ besideOther (u32 7) (0x1C ∷ 0x1D ∷ 0x1E ∷ 0x1F ∷ 0x20 ∷ 0x21 ∷ 0x22 ∷ [])
     -- BoolAnd, BoolOr
     ++ besideOther (bool true) (0x16 ∷ 0x18 ∷ [])
-    -- QAnd, QImpl, QOr
-    ++ besideOther (quad T) (0x3D ∷ 0x3E ∷ 0x40 ∷ [])
-    -- BoolNot, QNot
-    ++ map ofOther (0x17 ∷ 0x3F ∷ []))
+    -- QAnd, QImpl, QOr, QTruthAnd, QTruthImpl, QTruthOr
+    ++ besideOther (quad T) (0x3D ∷ 0x3E ∷ 0x40 ∷ 0x41 ∷ 0x42 ∷ 0x44 ∷ [])
+    -- BoolNot, QNot, QTruthNot
+    ++ map ofOther (0x17 ∷ 0x3F ∷ 0x43 ∷ []))
 
 pub runs-hold : map (λ (w : Worked). after (map view (w .function)) (w .outside) initial (w .steps)) runs ≡ map (λ (w : Worked). w .entries) runs
-unfolding view loadCell classOf rows quadOf exec set put shown compute meaning meanings wrap addI32 subI32 mulI32 divI32 modI32 addU32 subU32 mulU32 divU32 modU32 addFx subFx mulFx divFx floatOf bitsOf divF64 constEq Ieee.ofBits Ieee.toBits Ieee.eq Ieee.add Ieee.sub Ieee.mul Ieee.div
+unfolding view loadCell classOf rows meet join quadOf exec set put shown compute meaning meanings wrap addI32 subI32 mulI32 divI32 modI32 addU32 subU32 mulU32 divU32 modU32 addFx subFx mulFx divFx floatOf bitsOf divF64 constEq Ieee.ofBits Ieee.toBits Ieee.eq Ieee.add Ieee.sub Ieee.mul Ieee.div
 runs-hold = refl

@@ -12,16 +12,19 @@ use Rattle.cells.specs.declared.refusal.Checked.the-variants.{Good, Refused as 
 use Rattle.cells.specs.declared.refusal.Refusal.{Refusal}
 use Rattle.cells.specs.declared.refusal.Refusal.the-variants.{Length}
 use Rattle.cells.proofs.Over.{over-take}
+use Rattle.crystalfold.specs.declared.rules.RuleSet.{RuleSet}
 use Rattle.crystalfold.specs.declared.rules.RuleSet.the-variants.{Default}
 use Rattle.image.specs.Image.{imageAnswer}
 use Rattle.image.specs.SiteCheck.{siteAnswer}
 use Rattle.passes.specs.Passes.{passBytes, passCount, passCheck, answerAs, outputAs, passAnswer, passOutput}
 use Rattle.passes.specs.Contracts.{RewriteDone}
 use Rattle.passes.specs.declared.OptReport.{OptReport}
+use Rattle.passes.specs.declared.Pass.{Pass}
+use Rattle.passes.specs.declared.Pass.the-variants.{Both}
 use Rattle.passes.specs.declared.Rewrite.{Rewrite}
 use Rattle.passes.specs.declared.Rewrite.the-variants.{Written, Refused}
 use Rattle.passes.proofs.Checked.{check-long}
-use Rattle.matchdesk.specs.Program.{whole, written, programTexts}
+use Rattle.matchdesk.specs.Program.{written, programTexts}
 use Rattle.matchdesk.specs.Contracts.{Fits}
 use Rattle.matchdesk.specs.declared.Job.{Job}
 use Rattle.matchdesk.specs.declared.Job.the-variants.{Rewrite as RewriteJob, Bytes, Check}
@@ -30,9 +33,9 @@ written-only : (a : Checked) (m count n : ℕ) (report : OptReport) → answerAs
 written-only Good m count n report e = (refl, cc)
 written-only (RefusedBy x) m count n report e = let z : _≡_ {A = ℕ} 0 1 = cc in absurd (omega arith)
 
-module _ (image before after : List ℕ) where
+module _ (k : RuleSet) (image before after : List ℕ) where
   -- the answer lies within the output, and its text within a buffer
-  pub reply-fits : (r : Rewrite) → RewriteDone Default image before after r → length after ≡ length before → (output : List ℕ) → 135198 ≤ length output
+  pub reply-fits : (r : Rewrite) → RewriteDone k image before after r → length after ≡ length before → (output : List ℕ) → 135198 ≤ length output
       → Fits r after output
   reply-fits (Written n report) w l output h =
       let g = w .done .accepted .0 refl in
@@ -42,23 +45,23 @@ module _ (image before after : List ℕ) where
 
   -- what goes by an answer, and by the bytes written where it has any, is what the definitions give
   pub said : {X : Type 0} (f : Rewrite → List ℕ → X) → ((x : Refusal) (s t : List ℕ) → f (Refused x) s ≡ f (Refused x) t) → (r : Rewrite)
-      → RewriteDone Default image before after r → length before ≡ maxImage → f (passAnswer whole image maxImage) (passBytes whole image) ≡ f r (written r after)
+      → RewriteDone k image before after r → length before ≡ maxImage → f (passAnswer (Both k) image maxImage) (passBytes (Both k) image) ≡ f r (written r after)
   unfolding passAnswer passOutput
   said f same (Written n report) w h =
-      let new : List ℕ = passBytes whole image in
-      let t = written-only (passCheck image (length before)) (length new) (passCount whole image) n report (sym (w .done .answer)) in
+      let new : List ℕ = passBytes (Both k) image in
+      let t = written-only (passCheck image (length before)) (length new) (passCount (Both k) image) n report (sym (w .done .answer)) in
       let b : after ≡ over new before = w .done .bytes ∙ ap (λ (a : Checked). outputAs a new before) (t .0) in
-      let e : passAnswer whole image maxImage ≡ Written n report = rw (← h) (sym (w .done .answer)) in
+      let e : passAnswer (Both k) image maxImage ≡ Written n report = rw (← h) (sym (w .done .answer)) in
       rw (e, b, ← t .1, over-take new before)
   said f same (Refused x) w h =
-      let e : passAnswer whole image maxImage ≡ Refused x = rw (← h) (sym (w .done .answer)) in
-      rw e (same x (passBytes whole image) (written (Refused x) after))
+      let e : passAnswer (Both k) image maxImage ≡ Refused x = rw (← h) (sym (w .done .answer)) in
+      rw e (same x (passBytes (Both k) image) (written (Refused x) after))
 
 -- ---- an input past the longest image: its bytes do not matter
 
-answer-long : (image : List ℕ) → maxImage < length image → passAnswer whole image maxImage ≡ Refused Length
+answer-long : (p : Pass) (image : List ℕ) → maxImage < length image → passAnswer p image maxImage ≡ Refused Length
 unfolding passAnswer
-answer-long image h = rw (← check-long image maxImage h)
+answer-long p image h = rw (← check-long image maxImage h)
 
 site-long : (image : List ℕ) → maxImage < length image → siteAnswer image ≡ RefusedBy Length
 unfolding siteAnswer imageAnswer
@@ -66,6 +69,6 @@ site-long image h = simp (lt-leb _ _ h)
 
 pub program-long : (job : Job) (s t : List ℕ) → maxImage < length s → maxImage < length t → programTexts job s ≡ programTexts job t
 unfolding programTexts
-program-long RewriteJob s t h k = rw (answer-long s h, answer-long t k)
-program-long Bytes s t h k = rw (answer-long s h, answer-long t k)
+program-long (RewriteJob rules) s t h k = rw (answer-long (Both rules) s h, answer-long (Both rules) t k)
+program-long Bytes s t h k = rw (answer-long (Both Default) s h, answer-long (Both Default) t k)
 program-long Check s t h k = rw (site-long s h, site-long t k)

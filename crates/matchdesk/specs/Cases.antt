@@ -5,7 +5,8 @@ use mathlib.Core.Option.{Option, none, some}
 use Prim.Native.Nat.{ℕ}
 use lib.ListN.{replicate}
 use Rattle.leaves.specs.Signed.{wrap, addI32}
-use Rattle.cells.specs.Assembler.{Head, LoadI32, AddI32, Ret}
+use Rattle.leaves.specs.Quads.{quadOf}
+use Rattle.cells.specs.Assembler.{Head, LoadI32, LoadQ, AddI32, QTruthNot, Ret}
 use Rattle.cells.specs.Cells.{Cell, flat}
 use Rattle.cells.specs.Check.{instructionCheck, eventCheck, headCheck}
 use Rattle.cells.specs.Functions.{functions}
@@ -14,7 +15,7 @@ use Rattle.cells.specs.View.{view, loadCell}
 use Rattle.sites.specs.Sites.{siteOf, eventSite, siteBy}
 use Rattle.sites.specs.Validators.{repeatAnswer, activationAnswer, judgeBy}
 use Rattle.cleanup.specs.Cleanup.{cleanCode, cleanCount, cleanEvents, cleanFunction}
-use Rattle.crystalfold.specs.Rules.{defaultTable, defaultRules}
+use Rattle.crystalfold.specs.Rules.{defaultTable, defaultRules, fullerTable, fullerRules}
 use Rattle.crystalfold.specs.Fold.{note}
 use Rattle.crystalfold.specs.CrystalFold.{foldCode, foldsOf, foldFunction}
 use Rattle.image.specs.Image.{imageAnswer}
@@ -22,7 +23,7 @@ use Rattle.image.specs.SiteCheck.{siteAnswer}
 use Rattle.passes.specs.Passes.{passAnswer, passBytes, passCheck, passCount}
 use Rattle.listing.specs.Decimal.{decimal}
 use Rattle.listing.specs.Text.{cellLine, rewritesLine, rewrittenText, refusedText, refusalText, goodText}
-use Rattle.matchdesk.specs.Program.{Texts, onOutput, onError, askedFor, programTexts, rewriteWord, bytesWord, checkWord}
+use Rattle.matchdesk.specs.Program.{Texts, onOutput, onError, askedFor, programTexts, rewriteWord, fullerWord, bytesWord, checkWord}
 use Rattle.matchdesk.specs.declared.Asked.{Asked}
 use Rattle.matchdesk.specs.declared.Asked.the-variants.{For, Unknown}
 
@@ -45,38 +46,56 @@ example = Head 7 3 0 ∷ LoadI32 1 5 ∷ AddI32 2 1 1 ∷ Ret 2 ∷ []
 rewritten : List Cell
 rewritten = Head 7 3 0 ∷ LoadI32 1 5 ∷ LoadI32 2 10 ∷ Ret 2 ∷ []
 
--- `good`; `refused 1 0 0`; `refused 2 0 0`; `rewrites 1`
+-- LoadQ r1 F, QTruthNot r2 r1, Ret r2
+quads : List Cell
+quads = Head 7 3 0 ∷ LoadQ 1 1 ∷ QTruthNot 2 1 ∷ Ret 2 ∷ []
+
+-- `good`; `refused 1 0 0`; `refused 2 0 0`; `rewrites 1`, `rewrites 0`
 good : List ℕ
 good = 103 ∷ 111 ∷ 111 ∷ 100 ∷ 10 ∷ []
 
 refused : ℕ → List ℕ
 refused digit = 114 ∷ 101 ∷ 102 ∷ 117 ∷ 115 ∷ 101 ∷ 100 ∷ 32 ∷ digit ∷ 32 ∷ 48 ∷ 32 ∷ 48 ∷ 10 ∷ []
 
-count : List ℕ
-count = 114 ∷ 101 ∷ 119 ∷ 114 ∷ 105 ∷ 116 ∷ 101 ∷ 115 ∷ 32 ∷ 49 ∷ 10 ∷ []
+count : ℕ → List ℕ
+count digit = 114 ∷ 101 ∷ 119 ∷ 114 ∷ 105 ∷ 116 ∷ 101 ∷ 115 ∷ 32 ∷ digit ∷ 10 ∷ []
 
 pub cases : List ProgramCase
 cases =
     -- the printed example: its text (whose lines listing/specs/Cases has by their bytes), its bytes, its check
     case rewriteWord (flat example) (some (onOutput (
-    cellLine (Head 7 3 0) ++ cellLine (LoadI32 1 5) ++ cellLine (LoadI32 2 10) ++ cellLine (Ret 2) ++ count
+    cellLine (Head 7 3 0) ++ cellLine (LoadI32 1 5) ++ cellLine (LoadI32 2 10) ++ cellLine (Ret 2) ++ count 49
     )))
     ∷ case bytesWord (flat example) (some (onOutput (flat rewritten)))
     ∷ case checkWord (flat example) (some (onOutput good))
+    -- by the fuller rewrite: the same; and a truth-order quad, which the default one leaves
+    ∷ case fullerWord (flat example) (some (onOutput (
+    cellLine (Head 7 3 0) ++ cellLine (LoadI32 1 5) ++ cellLine (LoadI32 2 10) ++ cellLine (Ret 2) ++ count 49
+    )))
+    ∷ case fullerWord (flat quads) (some (onOutput (
+    cellLine (Head 7 3 0) ++ cellLine (LoadQ 1 1) ++ cellLine (LoadQ 2 2) ++ cellLine (Ret 2) ++ count 49
+    )))
+    ∷ case rewriteWord (flat quads) (some (onOutput (
+    cellLine (Head 7 3 0) ++ cellLine (LoadQ 1 1) ++ cellLine (QTruthNot 2 1) ++ cellLine (Ret 2) ++ count 48
+    )))
+    ∷ case bytesWord (flat quads) (some (onOutput (flat quads)))
     -- the empty image is rewritten to the empty image
     ∷ case bytesWord [] (some (onOutput []))
     ∷ case checkWord [] (some (onOutput good))
     -- one byte is no cell, and a head of 0 is none: only `bytes` says so on standard error
     ∷ case rewriteWord (0 ∷ []) (some (onOutput (refused 49)))
+    ∷ case fullerWord (0 ∷ []) (some (onOutput (refused 49)))
+    ∷ case fullerWord (replicate 16 0) (some (onOutput (refused 50)))
     ∷ case bytesWord (0 ∷ []) (some (onError (refused 49)))
     ∷ case checkWord (replicate 16 0) (some (onOutput (refused 50)))
     ∷ case bytesWord (replicate 16 0) (some (onError (refused 50)))
-    -- no word: none at all, `byte`, `checks`
+    -- no word: none at all, `byte`, `checks`, `full`
     ∷ case [] (flat example) none
     ∷ case (98 ∷ 121 ∷ 116 ∷ 101 ∷ []) (flat example) none
     ∷ case (checkWord ++ 115 ∷ []) (flat example) none
+    ∷ case (102 ∷ 117 ∷ 108 ∷ 108 ∷ []) (flat example) none
     ∷ []
 
 pub worked : map (λ (c : ProgramCase). case (c .argument) (c .image) (doneFor (askedFor (c .argument)) (c .image))) cases ≡ cases
-unfolding doneFor example rewritten good refused count cases askedFor programTexts passAnswer passBytes passCheck passCount siteAnswer imageAnswer functions instructionCheck eventCheck headCheck rows siteOf eventSite siteBy repeatAnswer activationAnswer judgeBy cleanCode cleanCount cleanEvents cleanFunction foldCode foldsOf foldFunction defaultRules defaultTable note view loadCell classOf wrap addI32 decimal rewritesLine rewrittenText refusedText refusalText goodText
+unfolding doneFor example rewritten quads good refused count cases askedFor programTexts passAnswer passBytes passCheck passCount siteAnswer imageAnswer functions instructionCheck eventCheck headCheck rows siteOf eventSite siteBy repeatAnswer activationAnswer judgeBy cleanCode cleanCount cleanEvents cleanFunction foldCode foldsOf foldFunction defaultRules defaultTable fullerRules fullerTable note view loadCell quadOf classOf wrap addI32 decimal rewritesLine rewrittenText refusedText refusalText goodText
 worked = refl

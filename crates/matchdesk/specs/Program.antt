@@ -1,5 +1,5 @@
 -- Promise: what the program is asked for, and what it writes to standard output and to standard error for each job. The text of the rewrite's answer is
--- document 01's ('Cells on either edge', the last paragraph).
+-- document 01's ('Cells on either edge', the last paragraph); of the fuller rewrite (document 02, W2) it is the same.
 use mathlib.Core.List.{List, [], _∷_}
 use mathlib.Core.Bool.{Bool, true, false, cond, _&&_}
 use Prim.Native.Nat.{ℕ}
@@ -7,12 +7,11 @@ use lib.Dec.{eqb}
 use lib.ListN.{take}
 use Rattle.cells.specs.Cells.{cells}
 use Rattle.cells.specs.Check.{maxImage}
-use Rattle.crystalfold.specs.declared.rules.RuleSet.the-variants.{Default}
+use Rattle.crystalfold.specs.declared.rules.RuleSet.the-variants.{Default, Fuller}
 use Rattle.image.specs.SiteCheck.{siteAnswer}
 use Rattle.listing.specs.Text.{rewrittenText, refusalText, checkedText}
 use Rattle.passes.specs.Contracts.{lengthWritten}
 use Rattle.passes.specs.Passes.{passAnswer, passBytes, passOutput}
-use Rattle.passes.specs.declared.Pass.{Pass}
 use Rattle.passes.specs.declared.Pass.the-variants.{Both}
 use Rattle.passes.specs.declared.Rewrite.{Rewrite}
 use Rattle.passes.specs.declared.Rewrite.the-variants.{Written, Refused}
@@ -29,9 +28,12 @@ sameBytes [] (y ∷ ys) = false
 sameBytes (x ∷ xs) [] = false
 sameBytes (x ∷ xs) (y ∷ ys) = eqb x y && sameBytes xs ys
 
--- `rewrite`, `bytes` and `check`
+-- `rewrite`, `fuller`, `bytes` and `check`
 abbrev pub rewriteWord : List ℕ
 rewriteWord = 114 ∷ 101 ∷ 119 ∷ 114 ∷ 105 ∷ 116 ∷ 101 ∷ []
+
+abbrev pub fullerWord : List ℕ
+fullerWord = 102 ∷ 117 ∷ 108 ∷ 108 ∷ 101 ∷ 114 ∷ []
 
 abbrev pub bytesWord : List ℕ
 bytesWord = 98 ∷ 121 ∷ 116 ∷ 101 ∷ 115 ∷ []
@@ -41,9 +43,10 @@ checkWord = 99 ∷ 104 ∷ 101 ∷ 99 ∷ 107 ∷ []
 
 unfoldable pub askedFor : List ℕ → Asked
 askedFor word =
-    cond (sameBytes word rewriteWord) (For RewriteJob)
+    cond (sameBytes word rewriteWord) (For (RewriteJob Default))
+    (cond (sameBytes word fullerWord) (For (RewriteJob Fuller))
     (cond (sameBytes word bytesWord) (For Bytes)
-    (cond (sameBytes word checkWord) (For Check) Unknown))
+    (cond (sameBytes word checkWord) (For Check) Unknown)))
 
 -- ---- the texts
 
@@ -72,18 +75,14 @@ answerBytes (Refused x) new = onError (refusalText x)
 abbrev pub written : Rewrite → List ℕ → List ℕ
 written r out = take (lengthWritten r) out
 
--- the whole rewrite by the Rust's rules, with an output as long as the longest image
-abbrev pub whole : Pass
-whole = Both Default
-
--- what each job writes for an image
+-- what each job writes for an image; a rewrite is lent an output as long as the longest one
 unfoldable pub programTexts : Job → List ℕ → Texts
-programTexts RewriteJob image = onOutput (answerText (passAnswer whole image maxImage) (passBytes whole image))
-programTexts Bytes image = answerBytes (passAnswer whole image maxImage) (passBytes whole image)
+programTexts (RewriteJob k) image = onOutput (answerText (passAnswer (Both k) image maxImage) (passBytes (Both k) image))
+programTexts Bytes image = answerBytes (passAnswer (Both Default) image maxImage) (passBytes (Both Default) image)
 programTexts Check image = onOutput (checkedText (siteAnswer image))
 
 -- what a job leaves in the output that it lends to a rewrite
 unfoldable pub workAfter : Job → List ℕ → List ℕ → List ℕ
-workAfter RewriteJob image before = passOutput whole image before
-workAfter Bytes image before = passOutput whole image before
+workAfter (RewriteJob k) image before = passOutput (Both k) image before
+workAfter Bytes image before = passOutput (Both Default) image before
 workAfter Check image before = before

@@ -13,15 +13,16 @@ ghost use Rattle.matchdesk.specs.Contracts.{lengthOf, Room, Fits, Says};
 use cells::check::MAX_IMAGE;
 use cells::read::CELL;
 use cells::refusal::Checked;
+use crystalfold::rules::RuleSet;
 use input::Input;
 use libc::STDERR_FILENO;
 use libc::STDOUT_FILENO;
 use listing::Listed;
 use passes::Rewrite;
 
-// What the program can do: the text of the rewrite's answer, the rewritten image itself, the site check.
+// What the program can do: the text of a rewrite's answer, by a rule set; the rewritten image itself; the site check.
 enum Job {
-    Rewrite,
+    Rewrite(RuleSet),
     Bytes,
     Check,
 }
@@ -52,7 +53,7 @@ fn main() {
     let Asked::For(job) = asked else {
         io::write_all(
             STDERR_FILENO,
-            b"usage: matchdesk [rewrite | bytes | check] < image\n",
+            b"usage: matchdesk [rewrite | fuller | bytes | check] < image\n",
         );
         return;
     };
@@ -78,7 +79,7 @@ fn main() {
 fn argument() -> Asked {
     let n = os::arg_count();
     if n < 2 {
-        return Asked::For(Job::Rewrite);
+        return Asked::For(Job::Rewrite(RuleSet::Default));
     }
     if 2 < n {
         return Asked::Unknown;
@@ -92,7 +93,10 @@ fn job_of(word: &[u8]) -> Asked
     ensures { λ r. ⌜ r ≡ askedFor (now (word .entry)) ⌝ }
 {
     if check::same(word, b"rewrite") {
-        return Asked::For(Job::Rewrite);
+        return Asked::For(Job::Rewrite(RuleSet::Default));
+    }
+    if check::same(word, b"fuller") {
+        return Asked::For(Job::Rewrite(RuleSet::Fuller));
     }
     if check::same(word, b"bytes") {
         return Asked::For(Job::Bytes);
@@ -111,8 +115,8 @@ fn run(job: Job, image: &[u8], work: &mut [u8], output: &mut [u8], error: &mut [
     ensures { λ _. ⌜ now (work .exit) ≡ workAfter job (now (image .entry)) (now (work .entry)) ⌝ }
 {
     match job {
-        Job::Rewrite => {
-            let reply = passes::run_default_opt_passes(image, work);
+        Job::Rewrite(rules) => {
+            let reply = passes::run_opt_passes(rules, image, work);
             Said {
                 output: answer_text(reply, work, output),
                 error: 0,

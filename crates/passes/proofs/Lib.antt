@@ -2,4 +2,5 @@ pub mod Checked
 pub mod Done
 pub mod OneFunction
 pub mod WholeImage
+pub mod Alike
 pub mod Answered

@@ -1,4 +1,4 @@
--- Promise: what the three rewriting operations promise: s is the image, `before` and `after` are what the lent output holds at entry and at exit, and r is
+-- Promise: what the rewriting operations promise: s is the image, `before` and `after` are what the lent output holds at entry and at exit, and r is
 -- the answer. `answer` and `bytes` say everything outright; the other fields say what follows.
 use Prim.Native.Nat.{ℕ, _≤_}
 use mathlib.Core.Path.{_≡_}

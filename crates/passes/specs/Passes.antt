@@ -1,5 +1,5 @@
--- Promise: the three rewriting operations on an image s and a lent output (document 01, module 6 and 'Answers of the operations'): what each answers and
--- what the output then holds, by the image's bytes and by what the output held before.
+-- Promise: the rewriting operations on an image s and a lent output (document 01, module 6 and 'Answers of the operations'; document 02, W2): what each
+-- answers and what the output then holds, by the image's bytes and by what the output held before.
 use Prim.Native.Nat.{ℕ}
 use mathlib.Core.List.{List}
 use mathlib.Core.Bool.{cond}
@@ -24,7 +24,7 @@ use Rattle.passes.specs.declared.Rewrite.the-variants.{Written, Refused}
 
 -- ---- what the passes make of all functions
 
--- as the Rust's `run_default_opt_passes`: cleanup over every function, then CrystalFold over every function
+-- as the Rust's `run_default_opt_passes`: cleanup over every function, then CrystalFold over every function, by the rules of a rule set
 abbrev pub passAll : Pass → List Function → List Function
 passAll Cleanup fs = cleanAll fs
 passAll (CrystalFold k) fs = foldAll (rulesOf k) fs
@@ -45,7 +45,7 @@ passBytes p s = flat (cellsOfAll (passAll p (functions (cells s))))
 unfoldable pub passCount : Pass → List ℕ → ℕ
 passCount p s = countAll p (functions (cells s))
 
--- refused: 1; "then 5, a lent output shorter than the image; then as the site check". The output has n bytes
+-- refused, whatever the pass: 1; "then 5, a lent output shorter than the image; then as the site check". The output has n bytes
 unfoldable pub passCheck : List ℕ → ℕ → Checked
 passCheck s n = cond (goodLength s) (orElse (unless (leb (length s) n) OutputTooShort) (siteAnswer s)) (RefusedBy Length)
 

@@ -1,12 +1,13 @@
 -- Worked: the rewriting operations on images and lent outputs written out by hand from document 01 ('Answers of the operations', 'Cells on
--- either edge'): the reply, and every byte of the output at exit.
+-- either edge') and document 02 (W2): the reply, and every byte of the output at exit.
 use mathlib.Core.Path.{_≡_, refl}
 use mathlib.Core.Bool.{true, false}
 use mathlib.Core.List.{List, [], _∷_, _++_, map}
 use Prim.Native.Nat.{ℕ}
 use lib.ListN.{length, replicate}
 use Rattle.leaves.specs.Signed.{wrap, addI32}
-use Rattle.cells.specs.Assembler.{cell, Head, LoadI32, LoadBool, AddI32, Ret, RetNothing, site, noSite, StoreVarSited, MakeRecord, Borrow, Write, function}
+use Rattle.leaves.specs.Quads.{meet, quadOf}
+use Rattle.cells.specs.Assembler.{cell, Head, LoadI32, LoadBool, LoadQ, AddI32, QAnd, QTruthAnd, Ret, RetNothing, site, noSite, StoreVarSited, MakeRecord, Borrow, Write, function}
 use Rattle.cells.specs.Cells.{over}
 use Rattle.cells.specs.Check.{instructionCheck, eventCheck, headCheck}
 use Rattle.cells.specs.Functions.{functions}
@@ -16,10 +17,10 @@ use Rattle.cells.specs.View.{view, loadCell}
 use Rattle.sites.specs.Sites.{siteOf, eventSite, siteBy}
 use Rattle.sites.specs.Validators.{repeatAnswer, activationAnswer, judgeBy}
 use Rattle.cleanup.specs.Cleanup.{cleanFunction, cleanCode, cleanEvents, cleanCount}
-use Rattle.crystalfold.specs.Rules.{defaultTable, defaultRules}
+use Rattle.crystalfold.specs.Rules.{defaultTable, defaultRules, fullerTable, fullerRules}
 use Rattle.crystalfold.specs.Fold.{note}
 use Rattle.crystalfold.specs.CrystalFold.{foldFunction, foldCode, foldsOf}
-use Rattle.crystalfold.specs.declared.rules.RuleSet.the-variants.{Default}
+use Rattle.crystalfold.specs.declared.rules.RuleSet.the-variants.{Default, Fuller}
 use Rattle.image.specs.Image.{imageAnswer}
 use Rattle.image.specs.SiteCheck.{siteAnswer}
 use Rattle.passes.specs.Contracts.{Reply, success, refusal, replyOf}
@@ -37,9 +38,12 @@ pub record OperationCase : Type 0 where
 abbrev pub operation : Pass → List ℕ → List ℕ → Reply → List ℕ → OperationCase
 operation p s b r a = record { pass = p; image = s; before = b; reply = r; after = a }
 
--- the whole rewrite; its refusals, which leave the output as it was
+-- the whole rewrite, by the Rust's rules and by the fuller ones; refusals, which leave the output as it was
 abbrev pub whole : Pass
 whole = Both Default
+
+abbrev pub fuller : Pass
+fuller = Both Fuller
 
 abbrev pub refuses : Pass → List ℕ → List ℕ → ℕ → ℕ → ℕ → OperationCase
 refuses p s b number position detail = operation p s b (refusal (numbered number position detail)) b
@@ -54,6 +58,13 @@ example = function (LoadI32 1 5 ∷ AddI32 2 1 1 ∷ Ret 2 ∷ []) []
 
 abbrev pub folded : List ℕ
 folded = Head 7 3 0 ++ LoadI32 1 5 ++ LoadI32 2 10 ++ Ret 2
+
+-- LoadQ r1 T, LoadQ r2 S, QTruthAnd r3 r1 r2 (S), QAnd r4 r3 r1 (T), Ret r4
+abbrev pub chain : List ℕ
+chain = function (LoadQ 1 2 ∷ LoadQ 2 3 ∷ QTruthAnd 3 1 2 ∷ QAnd 4 3 1 ∷ Ret 4 ∷ []) []
+
+abbrev pub chainFolded : List ℕ
+chainFolded = Head 7 5 0 ++ LoadQ 1 2 ++ LoadQ 2 3 ++ LoadQ 3 3 ++ LoadQ 4 2 ++ Ret 4
 
 abbrev pub operations : List OperationCase
 operations =
@@ -87,10 +98,23 @@ operations =
     ∷ refuses whole (cell []) (lent 16) 2 0 0
     -- as the site check: the second function's fault, and nothing of the first is written
     ∷ refuses whole (example ++ function (MakeRecord (site 5) ∷ []) []) (lent 96) 24 1 5
+    -- the truth-order quads: left by the default rewrite and by CrystalFold, folded by the fuller one; what follows from a folded one is folded too
+    ∷ operation whole chain (lent 96) (success 96 0 false) chain
+    ∷ operation (CrystalFold Default) chain (lent 96) (success 96 0 false) chain
+    ∷ operation fuller chain (lent 112) (success 96 2 true) (chainFolded ++ lent 16)
+    -- what the default rewrite does the fuller one does too; it refuses as the default one
+    ∷ operation fuller example (lent 64) (success 64 1 true) folded
+    ∷ operation fuller (function (LoadI32 1 5 ∷ LoadBool 1 1 ∷ []) []) (lent 48) (success 32 1 true) (Head 7 1 0 ++ LoadBool 1 1 ++ lent 16)
+    ∷ operation fuller [] [] (success 0 0 false) []
+    ∷ refuses fuller (0 ∷ []) [] 1 0 0
+    ∷ refuses fuller chain (lent 95) 5 0 0
+    ∷ refuses fuller (cell []) (lent 15) 5 0 0
+    ∷ refuses fuller (cell []) (lent 16) 2 0 0
+    ∷ refuses fuller (chain ++ function (MakeRecord (site 5) ∷ []) []) (lent 128) 24 1 5
     ∷ []
 
 pub operations-hold :
     map (λ (c : OperationCase). operation (c .pass) (c .image) (c .before) (replyOf (passAnswer (c .pass) (c .image) (length (c .before)))) (passOutput (c .pass) (c .image) (c .before))) operations
     ≡ operations
-unfolding over functions instructionCheck eventCheck headCheck rows classOf view loadCell siteOf eventSite siteBy repeatAnswer activationAnswer judgeBy cleanFunction cleanCode cleanEvents cleanCount defaultTable defaultRules note foldFunction foldCode foldsOf imageAnswer siteAnswer passBytes passCount passCheck passAnswer passOutput wrap addI32
+unfolding over functions instructionCheck eventCheck headCheck rows classOf view loadCell siteOf eventSite siteBy repeatAnswer activationAnswer judgeBy cleanFunction cleanCode cleanEvents cleanCount defaultTable defaultRules fullerTable fullerRules note foldFunction foldCode foldsOf imageAnswer siteAnswer passBytes passCount passCheck passAnswer passOutput wrap addI32 meet quadOf
 operations-hold = refl

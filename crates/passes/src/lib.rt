@@ -1,5 +1,5 @@
-// The rewriting operations on an image: cleanup, CrystalFold, and both, as `run_default_opt_passes`. Nothing is written before all checks
-// have passed.
+// The rewriting operations on an image: cleanup, CrystalFold, and both, by the Rust's rules (`run_default_opt_passes`) or by the fuller ones.
+// Nothing is written before all checks have passed.
 mod function;
 
 use cells::check::MAX_IMAGE;
@@ -56,11 +56,18 @@ pub fn crystalfold(image: &[u8], out: &mut [u8]) -> Rewrite
 pub fn run_default_opt_passes(image: &[u8], out: &mut [u8]) -> Rewrite
     ensures { λ r. ⌜ RewriteDone RuleSet.Default (now (image .entry)) (now (out .entry)) (now (out .exit)) r ⌝ }
 {
-    rewrite_by(RuleSet::Default, image, out)
+    run_opt_passes(RuleSet::Default, image, out)
+}
+
+// The whole rewrite with the fuller rules: the Rust's, and the truth-order quads.
+pub fn run_fuller_opt_passes(image: &[u8], out: &mut [u8]) -> Rewrite
+    ensures { λ r. ⌜ RewriteDone RuleSet.Fuller (now (image .entry)) (now (out .entry)) (now (out .exit)) r ⌝ }
+{
+    run_opt_passes(RuleSet::Fuller, image, out)
 }
 
 // The whole rewrite: cleanup of every function, then CrystalFold of every function by these rules.
-fn rewrite_by(rules: RuleSet, image: &[u8], out: &mut [u8]) -> Rewrite
+pub fn run_opt_passes(rules: RuleSet, image: &[u8], out: &mut [u8]) -> Rewrite
     ensures { λ r. ⌜ RewriteDone rules (now (image .entry)) (now (out .entry)) (now (out .exit)) r ⌝ }
 {
     run(Pass::Both(rules), image, out)

@@ -1,5 +1,5 @@
--- Worked: Document 01's starred cases ('Cells on either edge') and its printed example, through the whole rewrite with the default rules: one table, and
--- one theorem of all its rows.
+-- Worked: Document 01's starred cases ('Cells on either edge') and its printed example, through the whole rewrite with the default rules; and document
+-- 02's truth-order quads (W2), through both rewrites: a table each, and one theorem of all its rows.
 use mathlib.Core.Path.{_≡_, refl}
 use mathlib.Core.Bool.{true, false}
 use mathlib.Core.List.{List, [], _∷_, map}
@@ -10,16 +10,16 @@ use Rattle.leaves.specs.Signed.{wrap, addI32, divI32, modI32}
 use Rattle.leaves.specs.Unsigned.{subU32}
 use Rattle.leaves.specs.Fixed.{mulFx}
 use Rattle.leaves.specs.Float.{floatOf}
-use Rattle.leaves.specs.Quads.{quadOf}
+use Rattle.leaves.specs.Quads.{meet, join, quadOf}
 use Rattle.leaves.specs.Constants.{constEq}
 use Rattle.cells.specs.Cells.{Cell}
 use Rattle.cells.specs.Ins.{Const, quad, bool, f64, i32, u32, fx}
 use Rattle.cells.specs.Table.{rows, classOf}
 use Rattle.cells.specs.View.{view, loadCell}
-use Rattle.cells.specs.Assembler.{Label, Jmp, Ret, LoadBool, LoadI32, LoadU32, binary, AddI32}
+use Rattle.cells.specs.Assembler.{Label, Jmp, Ret, LoadBool, LoadI32, LoadQ, LoadU32, binary, unary, AddI32, QAnd, QTruthAnd, QTruthImpl, QTruthNot, QTruthOr, ClockRead}
 use Rattle.cleanup.specs.Cleanup.{cleanCode, cleanCount}
 use Rattle.cleanup.specs.Cases.{FunctionCase, case}
-use Rattle.crystalfold.specs.Rules.{defaultTable, defaultRules}
+use Rattle.crystalfold.specs.Rules.{defaultTable, defaultRules, fullerTable, fullerRules}
 use Rattle.crystalfold.specs.Fold.{note}
 use Rattle.crystalfold.specs.CrystalFold.{foldCode, foldsOf}
 use Rattle.rewrite.specs.Rewrite.{rewriteCode, rewriteCount}
@@ -66,5 +66,85 @@ cases =
 
 pub cases-hold :
     map (λ (c : FunctionCase). case (c .sent) (rewriteCode defaultRules (c .sent)) (rewriteCount defaultRules (c .sent))) cases ≡ cases
-unfolding rewriteCode rewriteCount cleanCode cleanCount foldCode foldsOf defaultRules defaultTable note view loadCell classOf rows quadOf wrap addI32 divI32 modI32 subU32 mulFx constEq floatOf Ieee.eq Ieee.ofBits
+unfolding rewriteCode rewriteCount cleanCode cleanCount foldCode foldsOf defaultRules defaultTable note view loadCell classOf rows meet join quadOf wrap addI32 divI32 modI32 subU32 mulFx constEq floatOf Ieee.eq Ieee.ofBits
 cases-hold = refl
+
+-- ---- the truth-order quads: "a fuller rewrite which folds them as well; the default one remains the Rust's"
+
+-- a function as sent, as each rewrite hands it back, and each count
+pub record BothCase : Type 0 where
+  pub sent : List Cell
+  pub byDefault : List Cell
+  pub defaultCount : ℕ
+  pub byFuller : List Cell
+  pub fullerCount : ℕ
+
+abbrev pub both : List Cell → List Cell → ℕ → List Cell → ℕ → BothCase
+both s d m f n = record { sent = s; byDefault = d; defaultCount = m; byFuller = f; fullerCount = n }
+
+-- left by the default rewrite, which changes nothing
+abbrev pub folded : List Cell → List Cell → ℕ → BothCase
+folded s f n = both s s 0 f n
+
+-- left by both
+abbrev pub left : List Cell → BothCase
+left s = both s s 0 s 0
+
+-- a command at quads in r1 and r2, for r3
+abbrev pub truth : (ℕ → ℕ → ℕ → Cell) → ℕ → ℕ → ℕ → BothCase
+truth o a b v = folded (LoadQ 1 a ∷ LoadQ 2 b ∷ o 3 1 2 ∷ []) (LoadQ 1 a ∷ LoadQ 2 b ∷ LoadQ 3 v ∷ []) 1
+
+abbrev pub truthNot : ℕ → ℕ → BothCase
+truthNot a v = folded (LoadQ 1 a ∷ QTruthNot 3 1 ∷ []) (LoadQ 1 a ∷ LoadQ 3 v ∷ []) 1
+
+-- quads by their numbers: N 0, F 1, T 2, S 3
+abbrev pub truthCases : List BothCase
+truthCases =
+    -- F is below T, and N and S can't be compared: their and is F, their or is T
+    truth QTruthAnd 2 1 1
+    ∷ truth QTruthAnd 0 3 1
+    ∷ truth QTruthAnd 2 3 3
+    ∷ truth QTruthOr 2 1 2
+    ∷ truth QTruthOr 3 0 2
+    ∷ truth QTruthOr 1 0 0
+    -- not F or N is T; not T or N is N; not N or S is T
+    ∷ truth QTruthImpl 1 0 2
+    ∷ truth QTruthImpl 2 0 0
+    ∷ truth QTruthImpl 0 3 2
+    -- not exchanges F and T
+    ∷ truthNot 0 0
+    ∷ truthNot 1 2
+    ∷ truthNot 2 1
+    ∷ truthNot 3 3
+    -- one register for both operands and dst
+    ∷ folded (LoadQ 1 3 ∷ QTruthAnd 1 1 1 ∷ Ret 1 ∷ []) (LoadQ 1 3 ∷ LoadQ 1 3 ∷ Ret 1 ∷ []) 1
+    -- what follows from a folded one: QAnd of S and T is T; not T is F
+    ∷ folded (LoadQ 1 2 ∷ LoadQ 2 3 ∷ QTruthAnd 3 1 2 ∷ QAnd 4 3 1 ∷ QTruthNot 5 4 ∷ Ret 5 ∷ [])
+    (LoadQ 1 2 ∷ LoadQ 2 3 ∷ LoadQ 3 3 ∷ LoadQ 4 2 ∷ LoadQ 5 1 ∷ Ret 5 ∷ [])
+    3
+    -- the default rewrite forgets dst, so that QNot r3 r1 stays there; what doesn't depend on it is folded by both
+    ∷ folded (LoadQ 1 2 ∷ LoadQ 2 1 ∷ QTruthAnd 1 1 2 ∷ unary 0x3F 3 1 ∷ []) (LoadQ 1 2 ∷ LoadQ 2 1 ∷ LoadQ 1 1 ∷ LoadQ 3 2 ∷ []) 2
+    ∷ both (LoadQ 1 2 ∷ LoadQ 2 1 ∷ QTruthOr 3 1 2 ∷ QAnd 4 1 2 ∷ [])
+    (LoadQ 1 2 ∷ LoadQ 2 1 ∷ QTruthOr 3 1 2 ∷ LoadQ 4 0 ∷ [])
+    1
+    (LoadQ 1 2 ∷ LoadQ 2 1 ∷ LoadQ 3 2 ∷ LoadQ 4 0 ∷ [])
+    2
+    -- an operand unknown, on either side, though the other decides the result; or of another kind
+    ∷ left (LoadQ 1 1 ∷ QTruthAnd 3 1 2 ∷ [])
+    ∷ left (LoadQ 1 1 ∷ QTruthAnd 3 2 1 ∷ [])
+    ∷ left (QTruthNot 3 1 ∷ [])
+    ∷ left (LoadQ 1 1 ∷ LoadBool 2 0 ∷ QTruthOr 3 1 2 ∷ [])
+    ∷ left (LoadI32 1 1 ∷ LoadQ 2 1 ∷ QTruthImpl 3 1 2 ∷ [])
+    ∷ left (LoadBool 1 1 ∷ QTruthNot 3 1 ∷ [])
+    -- nothing is known past a barrier
+    ∷ left (LoadQ 1 1 ∷ Label 1 ∷ QTruthNot 3 1 ∷ [])
+    ∷ left (LoadQ 1 1 ∷ ClockRead 2 ∷ QTruthNot 3 1 ∷ [])
+    -- the Rust's rules, and cleanup, in both
+    ∷ both (LoadI32 1 5 ∷ AddI32 2 1 1 ∷ Ret 2 ∷ QTruthNot 3 1 ∷ []) (LoadI32 1 5 ∷ LoadI32 2 10 ∷ Ret 2 ∷ []) 2 (LoadI32 1 5 ∷ LoadI32 2 10 ∷ Ret 2 ∷ []) 2
+    ∷ []
+
+pub truth-hold :
+    map (λ (c : BothCase). both (c .sent) (rewriteCode defaultRules (c .sent)) (rewriteCount defaultRules (c .sent)) (rewriteCode fullerRules (c .sent)) (rewriteCount fullerRules (c .sent))) truthCases
+    ≡ truthCases
+unfolding rewriteCode rewriteCount cleanCode cleanCount foldCode foldsOf defaultRules defaultTable fullerRules fullerTable note view loadCell classOf rows meet join quadOf wrap addI32
+truth-hold = refl

@@ -1,4 +1,4 @@
-//! The answers of the five operations.
+//! The answers of the six operations.
 
 use std::fmt;
 
@@ -45,13 +45,23 @@ pub fn rewritten_text(answer: &Rewritten) -> String {
 /// The operations that write.
 #[derive(Debug, Clone, Copy, PartialEq, Eq)]
 pub enum Operation {
+    /// The default rewrite, the Rust's.
     Rewrite,
     Cleanup,
     CrystalFold,
+    /// Document 02's fuller rewrite, which the Rust doesn't have.
+    Fuller,
 }
 
-pub const OPERATIONS: [Operation; 3] =
+/// Those that the Rust has.
+pub const ORIGINALS: [Operation; 3] =
     [Operation::Rewrite, Operation::Cleanup, Operation::CrystalFold];
+
+/// All of them, those first.
+pub const OPERATIONS: [Operation; 4] = {
+    let [rewrite, cleanup, crystalfold] = ORIGINALS;
+    [rewrite, cleanup, crystalfold, Operation::Fuller]
+};
 
 /// Someone who answers: the model, the proved library, or a wrong program.
 pub trait Operations: Sync {
@@ -61,12 +71,14 @@ pub trait Operations: Sync {
     fn cleanup(&self, image: &[u8], out: &mut [u8]) -> Rewritten;
     fn crystalfold(&self, image: &[u8], out: &mut [u8]) -> Rewritten;
     fn rewrite(&self, image: &[u8], out: &mut [u8]) -> Rewritten;
+    fn fuller(&self, image: &[u8], out: &mut [u8]) -> Rewritten;
 
     fn run(&self, operation: Operation, image: &[u8], out: &mut [u8]) -> Rewritten {
         match operation {
             Operation::Rewrite => self.rewrite(image, out),
             Operation::Cleanup => self.cleanup(image, out),
             Operation::CrystalFold => self.crystalfold(image, out),
+            Operation::Fuller => self.fuller(image, out),
         }
     }
 }

@@ -2,9 +2,12 @@
 //! whoever is under test.
 
 use crate::answers::{
-    checked_text, rewritten_text, Checked, Operation, Operations, Refusal, Rewritten, OPERATIONS,
+    checked_text, rewritten_text, Checked, Operation, Operations, Refusal, Rewritten, Success,
+    OPERATIONS, ORIGINALS,
 };
 use crate::cells;
+use crate::leaves;
+use crate::legacy_lowering::byte;
 use crate::model;
 use crate::original::{self, Answers};
 
@@ -22,6 +25,9 @@ pub struct Expected {
     site_check: Checked,
     /// The original's, where the image passes the image check.
     original: Option<Answers>,
+    /// What the fuller rewrite writes by the model, where the image passes the site check: the
+    /// original has no fuller rewrite.
+    fuller: Option<(Vec<u8>, Success)>,
 }
 
 fn difference(what: impl Into<String>, expected: String, got: String) -> Result<(), Difference> {
@@ -33,7 +39,7 @@ pub fn expected(image: &[u8]) -> Result<Expected, Difference> {
     let image_check = model::image_check(image);
     let site_check = model::site_check(image);
     if image_check.is_err() {
-        return Ok(Expected { image_check, site_check, original: None });
+        return Ok(Expected { image_check, site_check, original: None, fuller: None });
     }
     let original = std::panic::catch_unwind(|| original::answers(image))
         .unwrap_or_else(|_| Err("a panic".into()));
@@ -42,14 +48,22 @@ pub fn expected(image: &[u8]) -> Result<Expected, Difference> {
         expected: "an answer with a number".into(),
         got,
     })?;
-    let expected = Expected { image_check, site_check, original: Some(original) };
+    let fuller = site_check.is_ok().then(|| {
+        let (bytes, num_rewrites) = model::rewritten(Operation::Fuller, image);
+        let length = bytes.len();
+        (bytes, Success { length, num_rewrites, changed: num_rewrites > 0 })
+    });
+    let expected = Expected { image_check, site_check, original: Some(original), fuller };
     let original = expected.original.as_ref().unwrap();
 
     // The original refuses exactly if the site check does, and as it may.
     expected.sites("site check of the model", &site_check, &original.sites)?;
-    for (operation, answer) in OPERATIONS.iter().zip(&original.written) {
+    for (operation, answer) in ORIGINALS.iter().zip(&original.written) {
         let answer = answer.as_ref().map(|_| ()).map_err(|refusal| *refusal);
         expected.sites(&format!("{operation:?} of the original"), &site_check, &answer)?;
+    }
+    if let Some((bytes, success)) = &expected.fuller {
+        expected.check_by_the_original(image, image, &Ok(*success), bytes)?;
     }
     Ok(expected)
 }
@@ -63,11 +77,27 @@ impl Expected {
         self.site_check
     }
 
-    /// What the original writes, where it accepts.
+    /// What the original answers, where the image passes the image check.
+    pub fn original(&self) -> Option<&Answers> {
+        self.original.as_ref()
+    }
+
+    /// What the original writes, and the model for the fuller rewrite, where they accept.
     pub fn written(&self, operation: Operation) -> Option<&[u8]> {
-        let index = OPERATIONS.iter().position(|other| *other == operation)?;
-        let (bytes, _) = self.original.as_ref()?.written[index].as_ref().ok()?;
+        let (bytes, _) = self.success(operation)?;
         Some(bytes)
+    }
+
+    fn success(&self, operation: Operation) -> Option<&(Vec<u8>, Success)> {
+        match ORIGINALS.iter().position(|other| *other == operation) {
+            Some(index) => self.original.as_ref()?.written[index].as_ref().ok(),
+            None => self.fuller.as_ref(),
+        }
+    }
+
+    /// The fuller rewrite writes other cells than the default one.
+    pub fn fuller_differs(&self) -> bool {
+        self.written(Operation::Fuller) != self.written(Operation::Rewrite)
     }
 
     /// Both of two answers accept, or both refuse and the original could give either.
@@ -86,7 +116,7 @@ impl Expected {
         difference(what, expected, checked_text(other))
     }
 
-    /// Compares all five operations; `out` is as it was before each.
+    /// Compares all six operations; `out` is as it was before each.
     pub fn check(
         &self,
         subject: &dyn Operations,
@@ -118,6 +148,9 @@ impl Expected {
         let (expected, bytes) = self.operation(operation, image, out);
         let mut buffer = out.to_vec();
         let answer = subject.run(operation, image, &mut buffer);
+        if operation == Operation::Fuller {
+            self.check_by_the_original(image, out, &answer, &buffer)?;
+        }
         if answer != expected {
             let what = format!("{operation:?}, answer");
             return difference(what, rewritten_text(&expected), rewritten_text(&answer));
@@ -153,11 +186,57 @@ impl Expected {
         if let Err(refusal) = self.site_check {
             return (Err(refusal), &[]);
         }
-        let index = OPERATIONS.iter().position(|other| *other == operation).unwrap();
-        match &self.original.as_ref().unwrap().written[index] {
-            Ok((bytes, success)) => (Ok(*success), bytes),
-            Err(refusal) => (Err(*refusal), &[]),
+        // Where the site check accepts, so does the original.
+        let (bytes, success) = self.success(operation).unwrap();
+        (Ok(*success), bytes)
+    }
+
+    /// Holds an answer to the fuller rewrite against the original's to the default one, whatever
+    /// the truth-order leaves give. It refuses as the default does. Where no truth-order command
+    /// stands it answers and writes the same. Elsewhere it has as many cells, each the default's,
+    /// or a load where the default keeps a computed command: a truth-order one, or one behind
+    /// such a one with no barrier between. Each of those counts 1 more.
+    fn check_by_the_original(
+        &self,
+        image: &[u8],
+        out: &[u8],
+        answer: &Rewritten,
+        written: &[u8],
+    ) -> Result<(), Difference> {
+        let (default, bytes) = self.operation(Operation::Rewrite, image, out);
+        let what = "Fuller by the original, answer";
+        let lengths = |answer: &Rewritten| answer.map(|success| success.length);
+        if lengths(answer) != lengths(&default) {
+            return difference(what, rewritten_text(&default), rewritten_text(answer));
         }
+        let (Ok(default), Ok(success)) = (default, answer) else {
+            return Ok(());
+        };
+        let mut folds = 0;
+        let mut truth_order = false;
+        for (cell, fuller) in cells::cells(bytes).iter().zip(cells::cells(written)) {
+            // A head and a barrier; no event is a computed command.
+            if cell[0] == cells::HEAD || cell[0] <= byte::StateUpdate {
+                truth_order = false;
+            }
+            truth_order |= leaves::TRUTH_ORDER.contains(&cell[0]);
+            if cell == fuller {
+                continue;
+            }
+            let computed = leaves::operands(cell[0]).is_some();
+            let loads = leaves::loaded(fuller).is_some() && fuller[1..3] == cell[1..3];
+            if !(truth_order && computed && loads) {
+                let what = "Fuller by the original, bytes written";
+                return difference(what, hexadecimal(cell), hexadecimal(fuller));
+            }
+            folds += 1;
+        }
+        let num_rewrites = default.num_rewrites + folds;
+        let expected = Success { num_rewrites, changed: num_rewrites > 0, ..default };
+        if *success != expected {
+            return difference(what, expected.to_string(), success.to_string());
+        }
+        Ok(())
     }
 }
 

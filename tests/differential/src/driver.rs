@@ -19,6 +19,8 @@ pub struct Count {
     pub name: &'static str,
     pub images: u64,
     pub accepted: u64,
+    /// The fuller rewrite writes other cells than the default one.
+    pub differing: u64,
     /// An image counts once for each subject and each length of the lent output.
     pub comparisons: u64,
 }
@@ -68,6 +70,7 @@ impl Worker<'_> {
         let count = count_of(&mut self.counts, group);
         count.images += 1;
         count.accepted += expected.accepted() as u64;
+        count.differing += expected.fuller_differs() as u64;
         count.comparisons += comparisons;
     }
 
@@ -89,7 +92,7 @@ impl Worker<'_> {
         self.stop.load(Ordering::Relaxed)
     }
 
-    /// Runs the functions of an image as sent and as returned.
+    /// Runs the functions of an image as sent and as returned by both rewrites.
     fn run_functions(&mut self, image: &[u8], tries: usize) {
         match records(image, &mut self.random, tries) {
             Ok((runs, entries)) => {
@@ -140,34 +143,42 @@ impl Worker<'_> {
     }
 }
 
-/// Stands for the subject where the records of the original's own output are at fault.
+/// Stands for the subject where the records of what the original, or the model, returns are at
+/// fault.
 const RECORDS: &str = "returned function";
 
-/// Compares the records of each function as sent and as returned, where the
-/// premise holds, from several registers and against several outsides. Gives the
-/// number of pairs of runs and of their entries.
+/// Compares the records of each function as sent and as returned by the default and by
+/// the fuller rewrite, where the premise holds, from several registers and against several
+/// outsides. Gives the number of pairs of runs and of their entries.
 pub fn records(image: &[u8], random: &mut Random, tries: usize) -> Result<(u64, u64), Difference> {
     let expected = compare::expected(image)?;
-    let Some(written) = expected.written(Operation::Rewrite) else {
+    let default = expected.written(Operation::Rewrite);
+    let (Some(default), Some(fuller)) = (default, expected.written(Operation::Fuller)) else {
         return Ok((0, 0));
     };
     let (mut runs, mut entries) = (0, 0);
-    for (sent, returned) in cells::functions(image).zip(cells::functions(written)) {
+    let returned = cells::functions(default).zip(cells::functions(fuller));
+    for (sent, (default, fuller)) in cells::functions(image).zip(returned) {
         if !runs::labels_at_one_place(sent.instrs) {
             continue;
         }
+        // What both return is run once.
+        let both = [("default", default.instrs), ("fuller", fuller.instrs)];
+        let returned = if fuller.instrs == default.instrs { &both[..1] } else { &both[..] };
         for _ in 0..tries {
             let misfits = random.pick(&[0, 2, 15]);
             let registers = runs::any_registers(random, misfits);
             let outside = Outside { seed: random.bits(), stops: random.pick(&[0, 3, 20]), misfits };
             let bound = random.pick(&[8, 40, 90]);
-            let claims = runs::claims(sent.instrs, returned.instrs, &registers, outside, bound);
-            entries += claims.map_err(|error| Difference {
-                what: "records".into(),
-                expected: "the three claims".into(),
-                got: format!("{error}\n{}", hexadecimal(written)),
-            })? as u64;
-            runs += 1;
+            for (rewrite, returned) in returned {
+                let claims = runs::claims(sent.instrs, returned, &registers, outside, bound);
+                entries += claims.map_err(|error| Difference {
+                    what: format!("records under the {rewrite} rewrite"),
+                    expected: "the three claims".into(),
+                    got: format!("{error}\n{}", hexadecimal(returned.as_flattened())),
+                })? as u64;
+                runs += 1;
+            }
         }
     }
     Ok((runs, entries))
@@ -244,6 +255,7 @@ pub fn compare_all(subjects: &Subjects, seed: u64, seconds: u64, threads: usize)
             let sum = count_of(&mut outcome.counts, count.name);
             sum.images += count.images;
             sum.accepted += count.accepted;
+            sum.differing += count.differing;
             sum.comparisons += count.comparisons;
         }
         for (sum, count) in outcome.refusals.iter_mut().zip(worker.refusals) {

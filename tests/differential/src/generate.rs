@@ -1,7 +1,7 @@
 //! Images: every short one over small alphabets, every byte of every command,
 //! every fold at its edges; random ones, ones around the limits, damaged ones.
 
-use crate::cells::{self, Cell, CELL, MAX_EVENTS, MAX_IMAGE, MAX_INSTRS};
+use crate::cells::{self, Cell, CELL, MAX_EVENTS, MAX_IMAGE, MAX_INSTRS, REGISTERS};
 use crate::codec::Form;
 use crate::leaves::{self, Const};
 use crate::legacy_lowering::{byte, COMMANDS};
@@ -107,12 +107,13 @@ pub const NO_OUTPUT: isize = -(1 << 20);
 pub fn exhaustive() -> Vec<Exhaustive> {
     vec![
         every_length(),
+        short_quads(),
+        every_fold(),
+        every_pair(),
+        every_byte(),
         short_lists(),
         short_sites(),
         short_with_events(),
-        every_pair(),
-        every_byte(),
-        every_fold(),
     ]
 }
 
@@ -181,6 +182,34 @@ fn short_lists() -> Exhaustive {
     ];
     Exhaustive {
         name: "short lists",
+        more: &[0],
+        run: words(&alphabet, SHORT - 1),
+        count: words(&alphabet, SHORT),
+        image: Box::new(move |index| one_function(&word(&alphabet, index), &[])),
+    }
+}
+
+/// Quads in both orders: known, unknown and of another kind, truth-order results that feed
+/// further commands, a barrier between.
+fn short_quads() -> Exhaustive {
+    let quad = |register, quad| leaves::load(register, Const::Quad(quad));
+    let alphabet = vec![
+        quad(1, 0),
+        quad(1, 2),
+        quad(2, 1),
+        quad(2, 3),
+        leaves::load(1, Const::Bool(true)),
+        cell(byte::LoadVar, &[2, 0, 9, 0]),
+        label(1),
+        computed(byte::QTruthAnd, 1, 1, 2),
+        computed(byte::QTruthImpl, 2, 1, 2),
+        computed(byte::QTruthNot, 1, 2, 0),
+        computed(byte::QTruthOr, 2, 2, 1),
+        computed(byte::QAnd, 2, 1, 2),
+        computed(byte::QNot, 1, 1, 0),
+    ];
+    Exhaustive {
+        name: "short quads",
         more: &[0],
         run: words(&alphabet, SHORT - 1),
         count: words(&alphabet, SHORT),
@@ -403,9 +432,14 @@ fn every_fold() -> Exhaustive {
     }
 }
 
-/// The commands that CrystalFold may fold.
+/// The computed commands, which the fuller rewrite may fold.
 pub fn computed_commands() -> impl Iterator<Item = u8> {
     COMMANDS.iter().map(|command| command.byte).filter(|byte| leaves::operands(*byte).is_some())
+}
+
+/// Those that the default rewrite may fold.
+pub fn default_commands() -> impl Iterator<Item = u8> {
+    computed_commands().filter(|byte| !leaves::TRUTH_ORDER.contains(byte))
 }
 
 // ---- Random functions ----
@@ -429,6 +463,8 @@ pub struct Shape {
 struct Maker<'a> {
     random: &'a mut Random,
     shape: Shape,
+    /// How many of a hundred times quads come, besides sites and control.
+    quads: usize,
     next_site: u32,
     labels: u16,
 }
@@ -468,21 +504,24 @@ impl Maker<'_> {
         self.random.below(labels) as u16
     }
 
-    fn cell(&mut self) -> Cell {
+    fn push(&mut self, instrs: &mut Vec<Cell>) {
         let choice = self.random.below(100);
         if choice < self.shape.sites {
-            return self.site_command();
+            return instrs.push(self.site_command());
         }
         if choice < self.shape.sites + self.shape.control {
-            return self.control();
+            return instrs.push(self.control());
+        }
+        if choice < self.shape.sites + self.shape.control + self.quads {
+            return self.push_quads(instrs);
         }
         if self.random.chance(self.shape.actions) {
-            return self.action();
+            return instrs.push(self.action());
         }
-        match self.random.below(9) {
+        instrs.push(match self.random.below(9) {
             0..=3 => self.load(),
             _ => self.computed(),
-        }
+        })
     }
 
     fn site_command(&mut self) -> Cell {
@@ -527,7 +566,7 @@ impl Maker<'_> {
     }
 
     fn computed(&mut self) -> Cell {
-        let commands: Vec<u8> = computed_commands().collect();
+        let commands: Vec<u8> = default_commands().collect();
         let command = self.random.pick(&commands);
         let (operand, result) = match table::layout(command).unwrap().command.name {
             "CmpEq" | "CmpNe" => (self.random.below(6), 4),
@@ -545,11 +584,32 @@ impl Maker<'_> {
         computed(command, dst, lhs, rhs)
     }
 
-    /// An action without sites.
+    /// Loads of quads, most often, and commands of both orders on them.
+    fn push_quads(&mut self, instrs: &mut Vec<Cell>) {
+        for register in (0..REGISTERS).filter(|register| kind_of(*register) == 5).take(2) {
+            if self.random.chance(75) {
+                instrs.push(leaves::load(register, any_const(self.random, 5)));
+            }
+        }
+        for _ in 0..self.random.range(1, 3) {
+            let command = self.random.pick(&[
+                byte::QTruthAnd,
+                byte::QTruthImpl,
+                byte::QTruthNot,
+                byte::QTruthOr,
+                byte::QAnd,
+                byte::QNot,
+            ]);
+            let (dst, lhs, rhs) = (self.register(5), self.register(5), self.register(5));
+            instrs.push(computed(command, dst, lhs, rhs));
+        }
+    }
+
+    /// An action without sites, or a truth-order command, on registers of any kind.
     fn action(&mut self) -> Cell {
         let command = loop {
             let command = COMMANDS[self.random.below(COMMANDS.len())].byte;
-            if is_action(command) {
+            if is_action(command) || leaves::TRUTH_ORDER.contains(&command) {
                 break command;
             }
         };
@@ -585,17 +645,27 @@ fn is_action(command: u8) -> bool {
 
 /// A function whose sites are good.
 pub fn any_function(random: &mut Random, shape: Shape) -> (Vec<Cell>, Vec<Cell>) {
+    any_function_with_quads(random, shape, 0)
+}
+
+/// The same, with quads this many of a hundred times, besides sites and control.
+pub fn any_function_with_quads(
+    random: &mut Random,
+    shape: Shape,
+    quads: usize,
+) -> (Vec<Cell>, Vec<Cell>) {
     let next_site = random.bits() as u32;
     let next_site = random.pick(&[0, 1, u32::MAX - 2, 0x7FFF_FFFE, 0xFFFE, next_site]);
-    let mut maker = Maker { random, shape, next_site, labels: 0 };
+    let mut maker = Maker { random, shape, quads, next_site, labels: 0 };
     let mut instrs: Vec<Cell> = Vec::with_capacity(shape.instrs);
     while instrs.len() < shape.instrs {
         let repeat = maker.random.chance(6);
         match instrs.last() {
             Some(last) if repeat && last[0] == byte::Label => instrs.push(*last),
-            _ => instrs.push(maker.cell()),
+            _ => maker.push(&mut instrs),
         }
     }
+    instrs.truncate(shape.instrs);
     let mut events = events_for(&instrs, |_| maker.random.range(1, 3));
     for _ in 0..random.below(3) {
         events.push(borrow(None));
@@ -668,7 +738,8 @@ pub fn any_image(random: &mut Random) -> Vec<u8> {
     let mut image = Vec::new();
     for _ in 0..random.pick(&[0, 1, 1, 1, 1, 2, 3, 4]) {
         let shape = any_shape(random);
-        let (mut instrs, mut events) = any_function(random, shape);
+        let quads = random.pick(&[0, 20, 60]);
+        let (mut instrs, mut events) = any_function_with_quads(random, shape, quads);
         if random.chance(25) {
             spoil(random, &mut instrs, &mut events);
         }
@@ -688,7 +759,8 @@ pub fn runnable(random: &mut Random) -> Vec<u8> {
         misfits: random.pick(&[0, 0, 15]),
         one_place: random.chance(90),
     };
-    let (mut instrs, events) = any_function(random, shape);
+    let quads = random.pick(&[0, 15, 40]);
+    let (mut instrs, events) = any_function_with_quads(random, shape, quads);
     // Half of them begin again at their end.
     if random.chance(50) {
         instrs.insert(0, label(AGAIN));
@@ -832,7 +904,8 @@ fn filled_function(random: &mut Random, instrs: usize, events: Option<usize>) ->
     let sites = if events == Some(0) { 0 } else { random.pick(&[0, 10]) };
     let control = random.pick(&[0, 2, 10]);
     let shape = Shape { instrs, sites, control, actions: 10, misfits: 15, one_place: false };
-    let (instrs, mut made) = any_function(random, shape);
+    let quads = random.pick(&[0, 30]);
+    let (instrs, mut made) = any_function_with_quads(random, shape, quads);
     if let Some(events) = events {
         made.truncate(events);
         made.resize(events, borrow(None));

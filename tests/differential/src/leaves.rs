@@ -1,4 +1,5 @@
-//! Document 01's modules 1 and 2: what the computed commands give.
+//! What the computed commands give: document 01's modules 1 and 2, and document 02's
+//! truth-order quads.
 
 use crate::cells::{self, Cell, CELL};
 use crate::legacy_lowering::byte;
@@ -27,15 +28,20 @@ pub enum Computed {
     Unfit,
 }
 
+/// The commands that document 02 makes computed ones, and only the fuller rewrite folds.
+pub const TRUTH_ORDER: [u8; 4] =
+    [byte::QTruthAnd, byte::QTruthImpl, byte::QTruthNot, byte::QTruthOr];
+
 /// The number of operands of a computed command that is no load.
 pub fn operands(command: u8) -> Option<usize> {
     match command {
-        byte::BoolNot | byte::QNot => Some(1),
+        byte::BoolNot | byte::QNot | byte::QTruthNot => Some(1),
         byte::AddF64 | byte::SubF64 | byte::MulF64 | byte::DivF64 => Some(2),
         byte::AddFx | byte::SubFx | byte::MulFx | byte::DivFx => Some(2),
         byte::AddI32 | byte::SubI32 | byte::MulI32 | byte::DivI32 | byte::ModI32 => Some(2),
         byte::AddU32 | byte::SubU32 | byte::MulU32 | byte::DivU32 | byte::ModU32 => Some(2),
         byte::BoolAnd | byte::BoolOr | byte::QAnd | byte::QOr | byte::QImpl => Some(2),
+        byte::QTruthAnd | byte::QTruthOr | byte::QTruthImpl => Some(2),
         byte::CmpEq | byte::CmpNe => Some(2),
         byte::CmpI32Le | byte::CmpI32Lt | byte::CmpU32Le | byte::CmpU32Lt => Some(2),
         _ => None,
@@ -83,9 +89,14 @@ pub fn compute(command: u8, left: Const, right: Const) -> Computed {
         (byte::BoolOr, Bool(a), Bool(b)) => Some(Bool(a | b)),
 
         (byte::QNot, Quad(a), _) => Some(Quad(exchanged(a))),
-        (byte::QAnd, Quad(a), Quad(b)) => Some(Quad(greatest_lower(a, b))),
-        (byte::QOr, Quad(a), Quad(b)) => Some(Quad(least_upper(a, b))),
-        (byte::QImpl, Quad(a), Quad(b)) => Some(Quad(least_upper(exchanged(a), b))),
+        (byte::QAnd, Quad(a), Quad(b)) => Some(Quad(greatest_lower(&APPROXIMATION, a, b))),
+        (byte::QOr, Quad(a), Quad(b)) => Some(Quad(least_upper(&APPROXIMATION, a, b))),
+        (byte::QImpl, Quad(a), Quad(b)) => Some(Quad(least_upper(&APPROXIMATION, exchanged(a), b))),
+
+        (byte::QTruthNot, Quad(a), _) => Some(Quad(exchanged(a))),
+        (byte::QTruthAnd, Quad(a), Quad(b)) => Some(Quad(greatest_lower(&TRUTH, a, b))),
+        (byte::QTruthOr, Quad(a), Quad(b)) => Some(Quad(least_upper(&TRUTH, a, b))),
+        (byte::QTruthImpl, Quad(a), Quad(b)) => Some(Quad(least_upper(&TRUTH, exchanged(a), b))),
 
         (byte::CmpEq, a, b) => Some(Bool(equal(a, b))),
         (byte::CmpNe, a, b) => Some(Bool(!equal(a, b))),
@@ -127,9 +138,19 @@ const QUAD_F: u8 = 1;
 const QUAD_T: u8 = 2;
 const QUAD_S: u8 = 3;
 
-/// Belnap's approximation order.
-fn below(a: u8, b: u8) -> bool {
-    a == b || a == QUAD_N || b == QUAD_S
+/// An order of the quads: each with those directly above it.
+type Order = [(u8, u8); 4];
+
+/// Belnap's approximation order: N is below F and T, and both are below S.
+const APPROXIMATION: Order =
+    [(QUAD_N, QUAD_F), (QUAD_N, QUAD_T), (QUAD_F, QUAD_S), (QUAD_T, QUAD_S)];
+
+/// Belnap's logical order: F below N and S, both below T.
+const TRUTH: Order = [(QUAD_F, QUAD_N), (QUAD_F, QUAD_S), (QUAD_N, QUAD_T), (QUAD_S, QUAD_T)];
+
+/// Two quads are equal, or pairs lead up from the one to the other.
+fn below(order: &Order, a: u8, b: u8) -> bool {
+    a == b || order.iter().any(|&(low, high)| low == a && below(order, high, b))
 }
 
 fn exchanged(a: u8) -> u8 {
@@ -140,15 +161,15 @@ fn exchanged(a: u8) -> u8 {
     }
 }
 
-fn greatest_lower(a: u8, b: u8) -> u8 {
-    let lower = |c: u8| below(c, a) && below(c, b);
-    let greatest = |c: &u8| lower(*c) && (0..4).all(|d| !lower(d) || below(d, *c));
+fn greatest_lower(order: &Order, a: u8, b: u8) -> u8 {
+    let lower = |c: u8| below(order, c, a) && below(order, c, b);
+    let greatest = |c: &u8| lower(*c) && (0..4).all(|d| !lower(d) || below(order, d, *c));
     (0..4).find(greatest).unwrap()
 }
 
-fn least_upper(a: u8, b: u8) -> u8 {
-    let upper = |c: u8| below(a, c) && below(b, c);
-    let least = |c: &u8| upper(*c) && (0..4).all(|d| !upper(d) || below(*c, d));
+fn least_upper(order: &Order, a: u8, b: u8) -> u8 {
+    let upper = |c: u8| below(order, a, c) && below(order, b, c);
+    let least = |c: &u8| upper(*c) && (0..4).all(|d| !upper(d) || below(order, *c, d));
     (0..4).find(least).unwrap()
 }
 

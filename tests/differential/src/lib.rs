@@ -1,4 +1,4 @@
-//! The original sm-ir passes, a model of document 01's answers, and what is
+//! The original sm-ir passes, a model of document 01's and 02's answers, and what is
 //! needed to compare them with each other and with the proved library.
 
 pub mod answers;

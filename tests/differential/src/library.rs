@@ -51,6 +51,14 @@ mod linked {
             first: *mut usize,
             second: *mut usize,
         ) -> usize;
+        fn matchdesk_rewrite_fuller(
+            image: *const u8,
+            image_length: usize,
+            out: *mut u8,
+            out_length: usize,
+            first: *mut usize,
+            second: *mut usize,
+        ) -> usize;
     }
 
     /// What stands behind the references before a call: no answer has it.
@@ -66,8 +74,7 @@ mod linked {
 
     fn check(operation: Check, image: &[u8]) -> Checked {
         let (mut position, mut detail) = (UNSET, UNSET);
-        let number =
-            unsafe { operation(image.as_ptr(), image.len(), &mut position, &mut detail) };
+        let number = unsafe { operation(image.as_ptr(), image.len(), &mut position, &mut detail) };
         if number != 0 {
             return Err(refusal(number, position, detail));
         }
@@ -117,6 +124,9 @@ mod linked {
         }
         fn rewrite(&self, image: &[u8], out: &mut [u8]) -> Rewritten {
             answer(matchdesk_rewrite, image, out)
+        }
+        fn fuller(&self, image: &[u8], out: &mut [u8]) -> Rewritten {
+            answer(matchdesk_rewrite_fuller, image, out)
         }
     }
 }

@@ -1,13 +1,14 @@
-//! Runs the comparison; or makes or replays a sample of the original's answers; or
-//! compares what the printing program writes.
+//! Runs the comparison; or makes or replays a sample of the original's and the model's
+//! answers; or compares what the printing program writes.
 
 use differential::answers::{Operation, Operations};
 use differential::compare::{self, hexadecimal};
 use differential::driver::{compare_all, Count, Found, Outcome};
 use differential::model::Model;
+use differential::program::{self, Program};
 use differential::random::{mix, Random};
 use differential::runs::{self, Outside};
-use differential::{cells, generate, program, sample, table};
+use differential::{cells, generate, sample, table};
 use std::process::ExitCode;
 use std::time::{SystemTime, UNIX_EPOCH};
 
@@ -18,20 +19,28 @@ struct Options {
     sample: Option<String>,
     replay: Option<String>,
     program: Option<String>,
+    word: Option<String>,
 }
 
 const USAGE: &str = "\
 usage: [--seed N] [--seconds N] [--threads N]
        [--seed N] --sample FILE
        --replay FILE
-       [--seed N] [--seconds N] --program FILE";
+       [--seed N] [--seconds N] --program FILE [--word rewrite|fuller]";
 
 fn options() -> Result<Options, String> {
     let now = SystemTime::now().duration_since(UNIX_EPOCH).unwrap_or_default();
     let threads = std::thread::available_parallelism().map_or(1, |count| count.get());
     let seed = mix(now.as_nanos() as u64);
-    let mut options =
-        Options { seed, seconds: 60, threads, sample: None, replay: None, program: None };
+    let mut options = Options {
+        seed,
+        seconds: 60,
+        threads,
+        sample: None,
+        replay: None,
+        program: None,
+        word: None,
+    };
     let mut words = std::env::args().skip(1);
     while let Some(word) = words.next() {
         let value = words.next().ok_or_else(|| format!("{word} needs a value"))?;
@@ -43,6 +52,7 @@ fn options() -> Result<Options, String> {
             "--sample" => options.sample = Some(value),
             "--replay" => options.replay = Some(value),
             "--program" => options.program = Some(value),
+            "--word" => options.word = Some(value),
             _ => return Err(format!("{word} isn't known")),
         }
     }
@@ -66,7 +76,8 @@ fn main() -> ExitCode {
         (_, Some(file), _) => replay(file),
         (_, _, Some(file)) => {
             println!("seed {}", options.seed);
-            program::compare(file, options.seed, options.seconds)
+            Program::new(file, options.word.as_deref())
+                .and_then(|program| program::compare(program, options.seed, options.seconds))
         }
         _ => compare(&options),
     };
@@ -87,7 +98,7 @@ fn replay(file: &str) -> Result<String, String> {
     let mut lines = Vec::new();
     for subject in subjects() {
         let cases = sample::replay(&bytes, subject)?;
-        lines.push(format!("{}: {cases} cases as the original answered", subject.name()));
+        lines.push(format!("{}: {cases} cases as in the sample", subject.name()));
     }
     Ok(lines.join("\n"))
 }
@@ -134,27 +145,35 @@ fn compare(options: &Options) -> Result<String, String> {
     report(&outcome);
     let Some(found) = outcome.found else {
         let names: Vec<&str> = subjects.iter().map(|subject| subject.name()).collect();
-        return Ok(format!("no difference between the original and: {}", names.join(", ")));
+        return Ok(format!(
+            "no difference between the original and: {}\n\
+             the fuller rewrite: by the model, and by the original as far as it decides",
+            names.join(", ")
+        ));
     };
     let Found { group, subject, image, more, difference } = found;
     println!("DIFFERENCE: {}; group {group}, seed {}", difference.what, options.seed);
     println!("image, {} bytes", image.len());
     println!("{}", hexadecimal(&image));
     println!("lent output longer by {more}");
-    println!("original: {}", difference.expected);
+    println!("expected: {}", difference.expected);
     Err(format!("{subject}: {}", difference.got))
 }
 
 fn report(outcome: &Outcome) {
     let mut total = Count { name: "all", ..Count::default() };
-    println!("{:20} {:>12} {:>12} {:>12}", "group", "images", "accepted", "comparisons");
+    // Differing: where the fuller rewrite writes other cells than the default one.
+    let [images, accepted, differing, comparisons] =
+        ["images", "accepted", "differing", "comparisons"];
+    println!("{:20} {images:>12} {accepted:>12} {differing:>12} {comparisons:>12}", "group");
     let line = |count: &Count| {
-        let Count { name, images, accepted, comparisons } = count;
-        println!("{name:20} {images:>12} {accepted:>12} {comparisons:>12}");
+        let Count { name, images, accepted, differing, comparisons } = count;
+        println!("{name:20} {images:>12} {accepted:>12} {differing:>12} {comparisons:>12}");
     };
     for count in &outcome.counts {
         total.images += count.images;
         total.accepted += count.accepted;
+        total.differing += count.differing;
         total.comparisons += count.comparisons;
         line(count);
     }

@@ -1,4 +1,5 @@
-//! Document 01's answers, written from the document on cells and bytes.
+//! Document 01's answers and document 02's fuller rewrite, written from the documents on cells
+//! and bytes.
 
 use crate::answers::{Checked, Operation, Operations, Refusal, Rewritten, Success};
 use crate::cells::{self, Cell, Function};
@@ -28,6 +29,9 @@ impl Operations for Model {
     }
     fn rewrite(&self, image: &[u8], out: &mut [u8]) -> Rewritten {
         run(Operation::Rewrite, image, out)
+    }
+    fn fuller(&self, image: &[u8], out: &mut [u8]) -> Rewritten {
+        run(Operation::Fuller, image, out)
     }
 }
 
@@ -204,7 +208,7 @@ fn write_sites(function: &Function) -> Result<(), (u8, u32)> {
     Ok(())
 }
 
-// ---- Cleanup, CrystalFold, the whole rewrite ----
+// ---- Cleanup, CrystalFold, the whole rewrite, the fuller rewrite ----
 
 fn run(operation: Operation, image: &[u8], out: &mut [u8]) -> Rewritten {
     if !cells::length_good(image) {
@@ -219,18 +223,48 @@ fn run(operation: Operation, image: &[u8], out: &mut [u8]) -> Rewritten {
     Ok(Success { length: written.len(), num_rewrites, changed: num_rewrites > 0 })
 }
 
+/// A rule set: the value that a command folds to on two known values. A command of one operand has
+/// it twice.
+pub type Rules<'a> = &'a dyn Fn(u8, Const, Const) -> Option<Const>;
+
+/// The Rust's rules: the 31 commands of document 01's module 5. "QTruth commands aren't folded."
+pub fn default_rules(command: u8, left: Const, right: Const) -> Option<Const> {
+    if leaves::TRUTH_ORDER.contains(&command) {
+        return None;
+    }
+    fuller_rules(command, left, right)
+}
+
+/// The Rust's rules plus the four truth-order commands.
+pub fn fuller_rules(command: u8, left: Const, right: Const) -> Option<Const> {
+    match leaves::compute(command, left, right) {
+        Computed::Value(value) => Some(value),
+        Computed::NoResult | Computed::Unfit => None,
+    }
+}
+
 /// The new image of one that has passed the site check, and the count.
 pub fn rewritten(operation: Operation, image: &[u8]) -> (Vec<u8>, u32) {
+    match operation {
+        Operation::Rewrite => passes(image, true, Some(&default_rules)),
+        Operation::Cleanup => passes(image, true, None),
+        Operation::CrystalFold => passes(image, false, Some(&default_rules)),
+        Operation::Fuller => passes(image, true, Some(&fuller_rules)),
+    }
+}
+
+/// Cleanup or not, then the fold by some rules or none.
+pub fn passes(image: &[u8], cleans: bool, rules: Option<Rules>) -> (Vec<u8>, u32) {
     let mut written = Vec::with_capacity(image.len());
     let mut count = 0;
     for function in cells::functions(image) {
         let mut instrs = function.instrs.to_vec();
         let mut events = function.events.to_vec();
-        if operation != Operation::CrystalFold {
+        if cleans {
             count += cleanup(&mut instrs, &mut events);
         }
-        if operation != Operation::Cleanup {
-            count += crystalfold(&mut instrs);
+        if let Some(rules) = rules {
+            count += crystalfold(&mut instrs, rules);
         }
         cells::push_function(&mut written, function.name, &instrs, &events);
     }
@@ -289,7 +323,7 @@ fn removable(cell: &Cell) -> bool {
     matches!(cell[0], byte::LoadQ | byte::LoadBool | byte::LoadI32 | byte::LoadF64 | byte::LoadFx)
 }
 
-fn crystalfold(instrs: &mut [Cell]) -> u32 {
+fn crystalfold(instrs: &mut [Cell], rules: Rules) -> u32 {
     let mut known: [Option<Const>; cells::REGISTERS] = [None; cells::REGISTERS];
     let mut count = 0;
     for cell in instrs {
@@ -304,7 +338,7 @@ fn crystalfold(instrs: &mut [Cell]) -> u32 {
         let Some(register) = table::layout(cell[0]).unwrap().dst(cell) else {
             continue;
         };
-        known[register] = folded(cell, &known);
+        known[register] = folded(cell, &known, rules);
         if let Some(value) = known[register] {
             *cell = leaves::load(register, value);
             count += 1;
@@ -314,13 +348,10 @@ fn crystalfold(instrs: &mut [Cell]) -> u32 {
 }
 
 /// The value that a command folds to.
-fn folded(cell: &Cell, known: &[Option<Const>; cells::REGISTERS]) -> Option<Const> {
+fn folded(cell: &Cell, known: &[Option<Const>; cells::REGISTERS], rules: Rules) -> Option<Const> {
     let operands = leaves::operands(cell[0])?;
     let value = |place| known[cells::half(cell, place) as usize];
     let left = value(3);
     let right = if operands == 1 { left } else { value(5) };
-    match leaves::compute(cell[0], left?, right?) {
-        Computed::Value(value) => Some(value),
-        Computed::NoResult | Computed::Unfit => None,
-    }
+    rules(cell[0], left?, right?)
 }

@@ -62,13 +62,14 @@ pub fn run(operation: Operation, functions: &mut Vec<IrFunction>) -> Result<OptR
         Operation::Rewrite => run_default_opt_passes(functions),
         Operation::Cleanup => one(&StructuralCleanupPass, functions),
         Operation::CrystalFold => one(&CrystalFoldPass, functions),
+        Operation::Fuller => Err(OptError("the original has no fuller rewrite".into())),
     }
 }
 
 /// What the original answers on an image that has passed the image check.
 pub struct Answers {
     pub sites: Result<(), Refusal>,
-    /// What each operation writes, in the order of `OPERATIONS`.
+    /// What each operation writes, in the order of `ORIGINALS`.
     pub written: [Result<(Vec<u8>, Success), Refusal>; 3],
     /// The refusals that the original could give, for any order of its hash maps.
     pub possible: Vec<Refusal>,

@@ -10,11 +10,30 @@ use std::io::{Read, Write};
 use std::process::{Command, Stdio};
 use std::time::{Duration, Instant};
 
+/// A program, and the word that it takes, if any.
+#[derive(Clone, Copy)]
+pub struct Program<'a> {
+    file: &'a str,
+    word: Option<&'a str>,
+    operation: Operation,
+}
+
+impl<'a> Program<'a> {
+    pub fn new(file: &'a str, word: Option<&'a str>) -> Result<Program<'a>, String> {
+        let operation = match word {
+            None | Some("rewrite") => Operation::Rewrite,
+            Some("fuller") => Operation::Fuller,
+            Some(word) => return Err(format!("no text is known for the word {word}")),
+        };
+        Ok(Program { file, word, operation })
+    }
+}
+
 /// What the program must write for an image.
-pub fn text(image: &[u8]) -> Result<String, String> {
+pub fn text(operation: Operation, image: &[u8]) -> Result<String, String> {
     let expected = compare::expected(image).map_err(|difference| difference.what)?;
     let out = vec![0; image.len()];
-    let (answer, written) = expected.operation(Operation::Rewrite, image, &out);
+    let (answer, written) = expected.operation(operation, image, &out);
     Ok(match answer {
         Err(refusal) => format!("{refusal}\n"),
         Ok(success) if written.is_empty() => format!("rewrites {}\n", success.num_rewrites),
@@ -23,7 +42,7 @@ pub fn text(image: &[u8]) -> Result<String, String> {
 }
 
 /// Runs the program on images of all groups and on bytes that are none.
-pub fn compare(program: &str, seed: u64, seconds: u64) -> Result<String, String> {
+pub fn compare(program: Program, seed: u64, seconds: u64) -> Result<String, String> {
     let start = Instant::now();
     let mut random = Random::new(seed);
     let mut inputs = 0;
@@ -37,7 +56,8 @@ pub fn compare(program: &str, seed: u64, seconds: u64) -> Result<String, String>
         check(program, &input(&mut random))?;
         inputs += 1;
     }
-    Ok(format!("{program}: {inputs} inputs, each with the text that it must have"))
+    let Program { file, operation, .. } = program;
+    Ok(format!("{file}: {inputs} inputs, each with the text of {operation:?} that it must have"))
 }
 
 fn input(random: &mut Random) -> Vec<u8> {
@@ -59,8 +79,8 @@ fn input(random: &mut Random) -> Vec<u8> {
     }
 }
 
-fn check(program: &str, image: &[u8]) -> Result<(), String> {
-    let differs = |image: &[u8]| match text(image) {
+fn check(program: Program, image: &[u8]) -> Result<(), String> {
+    let differs = |image: &[u8]| match text(program.operation, image) {
         Ok(expected) => run(program, image) != Ok(expected),
         Err(_) => true,
     };
@@ -69,22 +89,24 @@ fn check(program: &str, image: &[u8]) -> Result<(), String> {
     }
     let image = shrink(image, differs);
     Err(format!(
-        "DIFFERENCE in what {program} writes for {} bytes\n{}\nmust be: {:?}\nis: {:?}",
+        "DIFFERENCE in what {} writes for {} bytes\n{}\nmust be: {:?}\nis: {:?}",
+        program.file,
         image.len(),
         hexadecimal(&image),
-        text(&image),
+        text(program.operation, &image),
         run(program, &image),
     ))
 }
 
 /// What the program writes; it must not write to standard error or be ended by a signal.
-fn run(program: &str, input: &[u8]) -> Result<String, String> {
-    let mut child = Command::new(program)
+fn run(program: Program, input: &[u8]) -> Result<String, String> {
+    let mut child = Command::new(program.file)
+        .args(program.word)
         .stdin(Stdio::piped())
         .stdout(Stdio::piped())
         .stderr(Stdio::piped())
         .spawn()
-        .map_err(|error| format!("{program}: {error}"))?;
+        .map_err(|error| format!("{}: {error}", program.file))?;
     let mut stdin = child.stdin.take().unwrap();
     let mut output = Vec::new();
     let mut errors = Vec::new();

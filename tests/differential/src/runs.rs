@@ -1,5 +1,6 @@
-//! An interpreter written from document 01, 'How a function runs', and the three
-//! claims on the records of a sent and a returned function.
+//! An interpreter written from document 01, 'How a function runs', with the truth-order quads
+//! computed as document 02 has it, and the three claims on the records of a sent and a returned
+//! function.
 
 use crate::cells::{self, Cell, REGISTERS};
 use crate::leaves::{self, Computed, Const};

@@ -1,28 +1,33 @@
-//! A seeded sample of the original's answers as bytes, and its replay.
+//! A seeded sample of answers as bytes, and its replay. The answers are the original's, and the
+//! model's to the fuller rewrite, which the original doesn't have.
 //!
 //! Numbers are little-endian. The file is a line of text that says how it was made, up
 //! to its line feed, then the number of cases (2 bytes) and the cases:
 //!
-//! - operation (1): 0 the whole rewrite, 1 cleanup, 2 CrystalFold;
+//! - operation (1): 0 the whole rewrite, 1 cleanup, 2 CrystalFold, 3 the fuller rewrite;
 //! - the image's length (2) and the image;
 //! - 0 (1), the output's length (2), rewrites (4), changed (1) and the output; or
 //!   1 (1), the refusal's number (1), position (2) and detail (4).
 
-use crate::answers::{Operation, Operations, Refusal, Success, OPERATIONS};
+use crate::answers::{Operation, Operations, Refusal, Success, OPERATIONS, ORIGINALS};
 use crate::cells::{self, Cell};
+use crate::compare;
 use crate::generate::{
-    any_function, borrow, computed, computed_commands, event, jmp, jmp_if, label, load_i32,
-    make_record, one_function, ret, store_var, write as write_event, Shape,
+    any_function_with_quads, borrow, computed, default_commands, event, jmp, jmp_if, label,
+    load_i32, make_record, one_function, ret, store_var, write as write_event, Shape,
 };
-use crate::leaves::{self, Const};
+use crate::leaves::{self, Const, TRUTH_ORDER};
 use crate::legacy_lowering::byte;
 use crate::random::Random;
 use crate::runs::any_const;
-use crate::{model, original, table};
+use crate::table;
 use std::collections::BTreeSet;
 
-/// How many images there are at least.
+/// How many images of the original's operations there are at least.
 const IMAGES: usize = 400;
+
+/// How many random images of the fuller rewrite there are.
+const FULLER_IMAGES: usize = 24;
 
 /// The numbers that the original's errors have.
 const NUMBERS: [u8; 10] = [11, 12, 13, 14, 21, 22, 23, 24, 25, 26];
@@ -32,7 +37,21 @@ struct Sample {
     images: usize,
     cases: u16,
     refusals: BTreeSet<u8>,
+    /// What the original folded.
     folds: BTreeSet<u8>,
+    fuller: Fuller,
+}
+
+/// What the fuller rewrite did.
+#[derive(Default)]
+struct Fuller {
+    cases: usize,
+    /// The truth-order commands folded, and those left.
+    folds: BTreeSet<u8>,
+    left: BTreeSet<u8>,
+    /// The commands that the default rewrite folds, folded by what a truth-order one gave.
+    chains: BTreeSet<u8>,
+    refusals: BTreeSet<u8>,
 }
 
 /// Writes a sample to a file and says what is in it.
@@ -51,9 +70,10 @@ pub fn make(seed: u64) -> Result<(Vec<u8>, String), String> {
         cases: 0,
         refusals: BTreeSet::new(),
         folds: BTreeSet::new(),
+        fuller: Fuller::default(),
     };
     for (name, image, wanted) in sweeps() {
-        let count = sample.add(&image, &OPERATIONS)?;
+        let count = sample.add(&image, &ORIGINALS)?;
         if count != Some(wanted) {
             return Err(format!("{name}: {count:?} rewrites instead of {wanted}"));
         }
@@ -65,9 +85,14 @@ pub fn make(seed: u64) -> Result<(Vec<u8>, String), String> {
         sample.add(&image, &[Operation::Rewrite])?;
     }
     while sample.images < IMAGES {
-        let image = small_image(&mut random);
-        let operation = random.pick(&OPERATIONS);
+        let image = small_image(&mut random, 0);
+        let operation = random.pick(&ORIGINALS);
         sample.add(&image, &[Operation::Rewrite, operation])?;
+    }
+    // Both rewrites, one after the other.
+    let quads = (0..FULLER_IMAGES).map(|_| small_image(&mut random, 60));
+    for image in truth_order().into_iter().chain(quads) {
+        sample.add(&image, &[Operation::Rewrite, Operation::Fuller])?;
     }
 
     let missing: Vec<u8> =
@@ -75,41 +100,60 @@ pub fn make(seed: u64) -> Result<(Vec<u8>, String), String> {
     if !missing.is_empty() {
         return Err(format!("refusals missing in the sample: {missing:?}"));
     }
-    let missing: Vec<&str> = computed_commands()
-        .filter(|command| !sample.folds.contains(command))
-        .map(|command| table::layout(command).unwrap().command.name)
-        .collect();
-    if !missing.is_empty() {
-        return Err(format!("folds missing in the sample: {missing:?}"));
+    none_missing("folds", default_commands(), &sample.folds)?;
+    let Fuller { cases, folds, left, chains, refusals } = &sample.fuller;
+    none_missing("folds by the fuller rewrite", TRUTH_ORDER, folds)?;
+    none_missing("commands that the fuller rewrite leaves", TRUTH_ORDER, left)?;
+    if chains.is_empty() || refusals.is_empty() {
+        return Err("no chain, or no refusal, of the fuller rewrite in the sample".into());
     }
     let line = format!(
-        "Answers of the original sm-ir passes: tests/differential --seed {seed} --sample FILE\n"
+        "Answers of the original sm-ir passes, and of the model to the fuller rewrite \
+         (operation 3): tests/differential --seed {seed} --sample FILE\n"
     );
     let bytes = [line.as_bytes(), &sample.cases.to_le_bytes(), &sample.bytes].concat();
     let text = format!(
-        "seed {seed}: {} images, {} cases, {} bytes; refusals {:?}; {} commands folded; {} sweeps",
+        "seed {seed}: {} images, {} cases, {} bytes; refusals {:?}; {} commands folded; {} sweeps\n\
+         the fuller rewrite: {cases} cases; refusals {refusals:?}; {} truth-order commands folded, \
+         {} left; behind them {} others folded",
         sample.images,
         sample.cases,
         bytes.len(),
         sample.refusals,
         sample.folds.len(),
         sweeps().len(),
+        folds.len(),
+        left.len(),
+        chains.len(),
     );
     Ok((bytes, text))
 }
 
+/// Fails with the names of the commands that aren't in the set.
+fn none_missing(
+    what: &str,
+    commands: impl IntoIterator<Item = u8>,
+    set: &BTreeSet<u8>,
+) -> Result<(), String> {
+    let missing = commands.into_iter().filter(|command| !set.contains(command));
+    let missing: Vec<&str> =
+        missing.map(|command| table::layout(command).unwrap().command.name).collect();
+    if !missing.is_empty() {
+        return Err(format!("{what} missing in the sample: {missing:?}"));
+    }
+    Ok(())
+}
+
 impl Sample {
-    /// Adds an image with the original's answers to some operations; gives the count of the
-    /// first. An image that the image check refuses, or to which the original may give
-    /// several refusals, stays out.
+    /// Adds an image with the answers to some operations; gives the count of the first. An image
+    /// that the image check refuses, or to which the original may give several refusals, stays
+    /// out.
     fn add(&mut self, image: &[u8], operations: &[Operation]) -> Result<Option<u32>, String> {
-        if model::image_check(image).is_err() {
+        let expected = compare::expected(image).map_err(|difference| difference.what)?;
+        if expected.original().is_none_or(|answers| answers.possible.len() > 1) {
             return Ok(None);
         }
-        let answers = original::answers(image)?;
-        if answers.possible.len() > 1 {
-            return Ok(None);
-        }
+        let lent = vec![0; image.len()];
         let mut first = None;
         for (index, operation) in OPERATIONS.iter().enumerate() {
             if !operations.contains(operation) {
@@ -119,34 +163,54 @@ impl Sample {
             bytes.push(index as u8);
             bytes.extend_from_slice(&(image.len() as u16).to_le_bytes());
             bytes.extend_from_slice(image);
-            match &answers.written[index] {
-                Ok((written, Success { length, num_rewrites, changed })) => {
+            match expected.operation(*operation, image, &lent) {
+                (Ok(Success { length, num_rewrites, changed }), written) => {
                     bytes.push(0);
-                    bytes.extend_from_slice(&(*length as u16).to_le_bytes());
+                    bytes.extend_from_slice(&(length as u16).to_le_bytes());
                     bytes.extend_from_slice(&num_rewrites.to_le_bytes());
-                    bytes.push(*changed as u8);
+                    bytes.push(changed as u8);
                     bytes.extend_from_slice(written);
-                    first = first.or(Some(*num_rewrites));
+                    first = first.or(Some(num_rewrites));
                 }
-                Err(Refusal { number, position, detail }) => {
-                    bytes.extend_from_slice(&[1, *number]);
-                    bytes.extend_from_slice(&(*position as u16).to_le_bytes());
+                (Err(Refusal { number, position, detail }), _) => {
+                    bytes.extend_from_slice(&[1, number]);
+                    bytes.extend_from_slice(&(position as u16).to_le_bytes());
                     bytes.extend_from_slice(&detail.to_le_bytes());
-                    self.refusals.insert(*number);
+                    self.refusals.insert(number);
+                    if *operation == Operation::Fuller {
+                        self.fuller.refusals.insert(number);
+                    }
                 }
             }
             self.cases += 1;
         }
-        // What the original folded after its cleanup.
-        if let [Ok((both, _)), Ok((cleaned, _)), _] = &answers.written {
-            for (before, after) in cells::cells(cleaned).iter().zip(cells::cells(both)) {
-                if before != after {
-                    self.folds.insert(before[0]);
-                }
+        // What both rewrites folded after cleanup.
+        let of = |operation| cells::cells(expected.written(operation).unwrap_or(&[])).iter();
+        let rewrites = of(Operation::Rewrite).zip(of(Operation::Fuller));
+        for (before, (default, fuller)) in of(Operation::Cleanup).zip(rewrites) {
+            if before != default {
+                self.folds.insert(before[0]);
+            }
+            if operations.contains(&Operation::Fuller) {
+                self.fuller.note(default, fuller);
             }
         }
+        self.fuller.cases += operations.contains(&Operation::Fuller) as usize;
         self.images += 1;
         Ok(first)
+    }
+}
+
+impl Fuller {
+    /// A cell as the default rewrite and as the fuller one returns it.
+    fn note(&mut self, default: &Cell, fuller: &Cell) {
+        let set = match (TRUTH_ORDER.contains(&default[0]), default != fuller) {
+            (true, true) => &mut self.folds,
+            (true, false) => &mut self.left,
+            (false, true) => &mut self.chains,
+            (false, false) => return,
+        };
+        set.insert(default[0]);
     }
 }
 
@@ -225,7 +289,7 @@ fn rows() -> Vec<Vec<u8>> {
 /// Each computed command on known values of its kinds, on a wrong kind and on an unknown one.
 fn folds(random: &mut Random) -> Vec<Vec<u8>> {
     let mut images = Vec::new();
-    for command in computed_commands() {
+    for command in default_commands() {
         let kind = (0..6)
             .find(|&kind| {
                 let value = any_const(random, kind);
@@ -291,7 +355,92 @@ fn refusals(random: &mut Random) -> Vec<Vec<u8>> {
     images
 }
 
-fn small_image(random: &mut Random) -> Vec<u8> {
+/// For both rewrites: each truth-order command on every two quads, on an unknown operand and on
+/// one of another kind; chains, cleanup before the fold, several functions, sites and refusals.
+fn truth_order() -> Vec<Vec<u8>> {
+    let quad = |register, quad| leaves::load(register, Const::Quad(quad));
+    let [n, f, t, s] = [0, 1, 2, 3];
+    let bool = |register| leaves::load(register, Const::Bool(true));
+    let mut images = Vec::new();
+    for command in TRUTH_ORDER {
+        let mut pairs: Vec<Cell> = (0..4).map(|value| quad(value, value as u8)).collect();
+        let rights = if leaves::operands(command) == Some(1) { 1 } else { 4 };
+        for left in 0..4 {
+            for right in 0..rights {
+                pairs.push(computed(command, 4 + 4 * left + right, left, right));
+            }
+        }
+        images.push(one_function(&pairs, &[]));
+        // F in register 1, T in 2, a bool in 3, and 4 unknown: neither quad decides alone.
+        let mut left = vec![quad(1, f), quad(2, t), bool(3)];
+        for (dst, other) in [(5, 3), (9, 4)] {
+            left.push(computed(command, dst, 1, other));
+            left.push(computed(command, dst + 1, 2, other));
+            left.push(computed(command, dst + 2, other, 1));
+            left.push(computed(command, dst + 3, other, 2));
+        }
+        images.push(one_function(&left, &[]));
+    }
+
+    let and = |dst, lhs, rhs| computed(byte::QTruthAnd, dst, lhs, rhs);
+    let or = |dst, lhs, rhs| computed(byte::QTruthOr, dst, lhs, rhs);
+    let implies = |dst, lhs, rhs| computed(byte::QTruthImpl, dst, lhs, rhs);
+    let not = |dst, src| computed(byte::QTruthNot, dst, src, 0);
+    let q_and = |dst, lhs, rhs| computed(byte::QAnd, dst, lhs, rhs);
+    let q_not = |dst, src| computed(byte::QNot, dst, src, 0);
+    let equal = |dst, lhs, rhs| computed(byte::CmpEq, dst, lhs, rhs);
+    let lists: [&[Cell]; 9] = [
+        // A folded command feeds others, of either order.
+        &[quad(1, t), quad(2, f), and(3, 1, 2), q_and(4, 3, 1), equal(5, 4, 3)],
+        &[
+            quad(1, n),
+            quad(2, s),
+            q_not(3, 1),
+            implies(4, 3, 2),
+            or(5, 4, 2),
+            not(6, 5),
+            q_not(7, 6),
+        ],
+        &[quad(1, n), quad(2, s), or(1, 1, 2), or(1, 1, 2), and(2, 1, 2), q_and(2, 2, 1)],
+        // One that stays makes its register unknown.
+        &[quad(1, t), bool(2), and(1, 1, 2), q_not(3, 1), not(4, 1)],
+        // The default rewrite knows the register after it no more, nor the fuller behind a barrier.
+        &[quad(1, t), not(1, 1), q_not(2, 1), label(1), not(3, 1)],
+        // Cleanup comes first.
+        &[jmp(1), not(1, 1), label(1), quad(1, n), quad(1, t), not(2, 1), ret(Some(2)), not(3, 3)],
+        // What it folds to isn't cleaned again.
+        &[quad(1, t), not(1, 1), not(1, 1)],
+        // None of the four.
+        &[load_i32(1, 5), computed(byte::AddI32, 2, 1, 1), ret(Some(2))],
+        &[quad(1, t), quad(2, f), q_and(3, 1, 2), q_not(4, 3)],
+    ];
+    images.extend(lists.map(|list| one_function(list, &[])));
+
+    // No register is known in a later function; sites and their events stay.
+    let mut two = one_function(&[quad(1, t), not(2, 1)], &[]);
+    let stored =
+        [quad(1, f), implies(2, 1, 1), store_var(2, Some(5), Some(6)), not(3, 2), ret(None)];
+    cells::push_function(&mut two, 8, &[not(2, 1)], &[]);
+    cells::push_function(&mut two, 9, &stored, &[borrow(Some(5)), write_event(6)]);
+    images.push(two);
+
+    let known = [quad(1, t), not(2, 1)];
+    let refused: [(Cell, &[Cell]); 4] = [
+        (store_var(2, Some(5), None), &[]),
+        (make_record(2, Some(6)), &[]),
+        (not(3, 2), &[write_event(7)]),
+        (not(3, 2), &[event(cells::EVENT_WRITE, None, None)]),
+    ];
+    for (last, events) in refused {
+        let mut later = one_function(&known, &[]);
+        cells::push_function(&mut later, 8, &[known[0], known[1], last], events);
+        images.push(later);
+    }
+    images
+}
+
+/// A small image with good sites, with quads this many of a hundred times.
+fn small_image(random: &mut Random, quads: usize) -> Vec<u8> {
     let mut image = Vec::new();
     for _ in 0..random.range(1, 2) {
         let shape = Shape {
@@ -302,7 +451,7 @@ fn small_image(random: &mut Random) -> Vec<u8> {
             misfits: 15,
             one_place: random.chance(50),
         };
-        let (instrs, events) = any_function(random, shape);
+        let (instrs, events) = any_function_with_quads(random, shape, quads);
         cells::push_function(&mut image, random.bits() as u16, &instrs, &events);
     }
     image

@@ -1,13 +1,16 @@
 //! Shows that the harness finds what it is there to find.
 
-use differential::answers::{Checked, Operation, Operations, Refusal, Rewritten, Success};
+use differential::answers::{
+    Checked, Operation, Operations, Refusal, Rewritten, Success, ORIGINALS,
+};
 use differential::cells::{self, CELL};
 use differential::compare;
 use differential::driver::compare_all;
 use differential::generate::{
-    borrow, computed, jmp, label, load_i32, make_record, one_function, ret, store_var, write,
+    borrow, computed, computed_commands, default_commands, jmp, label, load_i32, make_record,
+    one_function, ret, store_var, write,
 };
-use differential::leaves;
+use differential::leaves::{self, Computed, Const, TRUTH_ORDER};
 use differential::legacy_lowering::byte;
 use differential::model::{self, Model};
 use differential::{original, program, sample, table};
@@ -37,9 +40,29 @@ enum Fault {
     KeepsNaNBits,
     DetailInBytes,
     SitesBeforeCells,
+    // The truth-order quads.
+    DefaultFoldsTruthOrder,
+    CrystalFoldFoldsTruthOrder,
+    FullerIsTheDefault,
+    FullerLeaves(u8),
+    FullerTakesTheApproximationOrder,
+    FullerNotExchangesNAndS,
+    FullerNotKeepsAll,
+    FullerImpliesBackwards,
+    FullerCountsAsTheDefault,
+    FullerCountsTwice,
+    FullerFoldsTheFourAfterwards,
+    FullerKeepsKnowingWhatStaysWrites,
+    FullerFoldsUnfitOperands,
+    FullerOnlyFolds,
+    FullerCleansAgain,
+    FullerSkipsTheSiteCheck,
+    FullerRefusesInBytes,
+    FullerClearsTheRest,
+    FullerChangedAsTheDefault,
 }
 
-const FAULTS: [Fault; 18] = [
+const FAULTS: [Fault; 40] = [
     Fault::HandsTheImageBack,
     Fault::OnlyPretendsToFold,
     Fault::CountFromNowhere,
@@ -58,7 +81,46 @@ const FAULTS: [Fault; 18] = [
     Fault::KeepsNaNBits,
     Fault::DetailInBytes,
     Fault::SitesBeforeCells,
+    Fault::DefaultFoldsTruthOrder,
+    Fault::CrystalFoldFoldsTruthOrder,
+    Fault::FullerIsTheDefault,
+    Fault::FullerLeaves(byte::QTruthAnd),
+    Fault::FullerLeaves(byte::QTruthImpl),
+    Fault::FullerLeaves(byte::QTruthNot),
+    Fault::FullerLeaves(byte::QTruthOr),
+    Fault::FullerTakesTheApproximationOrder,
+    Fault::FullerNotExchangesNAndS,
+    Fault::FullerNotKeepsAll,
+    Fault::FullerImpliesBackwards,
+    Fault::FullerCountsAsTheDefault,
+    Fault::FullerCountsTwice,
+    Fault::FullerFoldsTheFourAfterwards,
+    Fault::FullerKeepsKnowingWhatStaysWrites,
+    Fault::FullerFoldsUnfitOperands,
+    Fault::FullerOnlyFolds,
+    Fault::FullerCleansAgain,
+    Fault::FullerSkipsTheSiteCheck,
+    Fault::FullerRefusesInBytes,
+    Fault::FullerClearsTheRest,
+    Fault::FullerChangedAsTheDefault,
 ];
+
+/// Those that the original's answer to the default rewrite tells, without the model.
+const BY_THE_ORIGINAL: [Fault; 7] = [
+    Fault::FullerCountsAsTheDefault,
+    Fault::FullerCountsTwice,
+    Fault::FullerChangedAsTheDefault,
+    Fault::FullerOnlyFolds,
+    Fault::FullerCleansAgain,
+    Fault::FullerSkipsTheSiteCheck,
+    Fault::FullerRefusesInBytes,
+];
+
+/// Writes an image over the start of a lent output.
+fn written((bytes, num_rewrites): (Vec<u8>, u32), out: &mut [u8]) -> Rewritten {
+    out[..bytes.len()].copy_from_slice(&bytes);
+    Ok(Success { length: bytes.len(), num_rewrites, changed: num_rewrites > 0 })
+}
 
 impl Operations for Wrong {
     fn name(&self) -> &'static str {
@@ -88,7 +150,113 @@ impl Operations for Wrong {
         Model.cleanup(image, out)
     }
     fn crystalfold(&self, image: &[u8], out: &mut [u8]) -> Rewritten {
-        Model.crystalfold(image, out)
+        let answer = Model.crystalfold(image, out);
+        if answer.is_ok() && self.fault == Fault::CrystalFoldFoldsTruthOrder {
+            return written(model::passes(image, false, Some(&model::fuller_rules)), out);
+        }
+        answer
+    }
+    fn fuller(&self, image: &[u8], out: &mut [u8]) -> Rewritten {
+        use model::fuller_rules;
+        let before = out.to_vec();
+        let answer = Model.fuller(image, out);
+        if self.fault == Fault::FullerSkipsTheSiteCheck
+            && answer.is_err_and(|refusal| refusal.number > 10)
+        {
+            return written(model::rewritten(Operation::Fuller, image), out);
+        }
+        if self.fault == Fault::FullerRefusesInBytes {
+            answer
+                .map_err(|refusal| Refusal { detail: refusal.detail * CELL as u32, ..refusal })?;
+        }
+        let success = answer?;
+        let (default, num_rewrites) = model::rewritten(Operation::Rewrite, image);
+        let mut with = |rules: model::Rules| {
+            out.copy_from_slice(&before);
+            written(model::passes(image, true, Some(rules)), out)
+        };
+        match self.fault {
+            Fault::FullerIsTheDefault => with(&model::default_rules),
+            Fault::FullerLeaves(left) => {
+                with(&|command, a, b| fuller_rules(command, a, b).filter(|_| command != left))
+            }
+            Fault::FullerTakesTheApproximationOrder => with(&|command, a, b| {
+                let command = match command {
+                    byte::QTruthAnd => byte::QAnd,
+                    byte::QTruthImpl => byte::QImpl,
+                    byte::QTruthOr => byte::QOr,
+                    other => other,
+                };
+                fuller_rules(command, a, b)
+            }),
+            Fault::FullerNotExchangesNAndS => with(&|command, a, b| match (command, a) {
+                (byte::QTruthNot, Const::Quad(a)) => Some(Const::Quad(3 - a)),
+                _ => fuller_rules(command, a, b),
+            }),
+            Fault::FullerNotKeepsAll => with(&|command, a, b| match (command, a) {
+                (byte::QTruthNot, Const::Quad(a)) => Some(Const::Quad(a)),
+                _ => fuller_rules(command, a, b),
+            }),
+            Fault::FullerImpliesBackwards => with(&|command, a, b| match command {
+                byte::QTruthImpl => fuller_rules(command, b, a),
+                _ => fuller_rules(command, a, b),
+            }),
+            Fault::FullerFoldsUnfitOperands => with(&|command, a, b| match (command, a, b) {
+                (byte::QTruthOr, Const::Quad(2), _) => Some(a),
+                _ => fuller_rules(command, a, b),
+            }),
+            Fault::FullerCountsAsTheDefault => Ok(Success { num_rewrites, ..success }),
+            Fault::FullerCountsTwice => {
+                let num_rewrites = 2 * success.num_rewrites - num_rewrites;
+                Ok(Success { num_rewrites, ..success })
+            }
+            Fault::FullerFoldsTheFourAfterwards => {
+                // In a pass of its own, so that they feed no other command.
+                let (bytes, two) = model::passes(
+                    &default,
+                    false,
+                    Some(&|command, a, b| {
+                        fuller_rules(command, a, b).filter(|_| TRUTH_ORDER.contains(&command))
+                    }),
+                );
+                written((bytes, num_rewrites + two), out)
+            }
+            Fault::FullerKeepsKnowingWhatStaysWrites => {
+                let fuller = out[..success.length].to_vec();
+                let stays = |cell: &cells::Cell| TRUTH_ORDER.contains(&cell[0]);
+                let put = |bytes: &mut [u8], other: Option<cells::Cell>| {
+                    let cells = bytes.as_chunks_mut::<CELL>().0.iter_mut();
+                    for (cell, fuller) in cells.zip(cells::cells(&fuller)) {
+                        if stays(fuller) {
+                            *cell = other.unwrap_or(*fuller);
+                        }
+                    }
+                };
+                // While it folds, a cell that writes no register stands in for each that stays.
+                let (mut bytes, one) = model::rewritten(Operation::Cleanup, image);
+                put(&mut bytes, Some(store_var(0, None, None)));
+                let (mut bytes, two) = model::passes(&bytes, false, Some(&fuller_rules));
+                put(&mut bytes, None);
+                written((bytes, one + two), out)
+            }
+            Fault::FullerOnlyFolds => {
+                written(model::passes(image, false, Some(&fuller_rules)), out)
+            }
+            Fault::FullerCleansAgain => {
+                let (fuller, one) = model::rewritten(Operation::Fuller, image);
+                let (cleaned, two) = model::rewritten(Operation::Cleanup, &fuller);
+                out.copy_from_slice(&before);
+                written((cleaned, one + two), out)
+            }
+            Fault::FullerClearsTheRest => {
+                out[success.length..].fill(0);
+                Ok(success)
+            }
+            Fault::FullerChangedAsTheDefault => {
+                Ok(Success { changed: num_rewrites > 0, ..success })
+            }
+            _ => Ok(success),
+        }
     }
     fn rewrite(&self, image: &[u8], out: &mut [u8]) -> Rewritten {
         let refused = |number| Err(Refusal { number, position: 0, detail: 0 });
@@ -163,8 +331,11 @@ impl Operations for Wrong {
                     }
                 }
             }
-            Fault::DetailInBytes | Fault::SitesBeforeCells => {}
-            Fault::TooShortBeforeMeasuring | Fault::WritesBeforeChecking => {}
+            Fault::DefaultFoldsTruthOrder => {
+                return written(model::rewritten(Operation::Fuller, image), out);
+            }
+            // Elsewhere than in this operation.
+            _ => {}
         }
         Ok(success)
     }
@@ -179,7 +350,100 @@ fn every_wrong_program_is_found() {
         let cells = found.image.len().div_ceil(CELL);
         println!("{fault:?}: {}, {cells} cells", found.difference.what);
         assert!(cells <= 5, "{fault:?} isn't shrunk: {cells} cells");
+        let by_the_original = found.difference.what.starts_with("Fuller by the original");
+        let must = BY_THE_ORIGINAL.contains(&fault);
+        assert!(by_the_original || !must, "{fault:?} isn't found by the original");
     }
+}
+
+/// Both rule sets, by the number of their commands.
+#[test]
+fn rule_sets() {
+    assert_eq!(default_commands().count(), 31);
+    assert_eq!(computed_commands().count(), 35);
+    let value = Const::Quad(2);
+    for command in TRUTH_ORDER {
+        assert_eq!(model::default_rules(command, value, value), None);
+        assert!(model::fuller_rules(command, value, value).is_some());
+    }
+}
+
+/// Document 02's four commands, worked out by hand: rows left, columns right, N F T S.
+#[test]
+fn truth_order_by_hand() {
+    let tables = [
+        (byte::QTruthAnd, "NFNF FFFF NFTS FFSS"),
+        (byte::QTruthOr, "NNTT NFTS TTTT TSTS"),
+        (byte::QTruthImpl, "NNTT TTTT NFTS TSTS"),
+        (byte::QTruthNot, "NNNN TTTT FFFF SSSS"),
+    ];
+    for (command, table) in tables {
+        for (left, row) in table.split(' ').enumerate() {
+            for (right, result) in row.chars().enumerate() {
+                let quad = "NFTS".find(result).unwrap() as u8;
+                let (a, b) = (Const::Quad(left as u8), Const::Quad(right as u8));
+                let value = Computed::Value(Const::Quad(quad));
+                assert_eq!(leaves::compute(command, a, b), value, "{command:02X} {a:?} {b:?}");
+            }
+        }
+        let other = Const::Bool(true);
+        assert_eq!(leaves::compute(command, other, other), Computed::Unfit);
+    }
+}
+
+/// Renamed F to N, N to F, S to T and T to S, the logical order is the approximation order. So the
+/// original, which folds QAnd and QOr, decides what the fuller rewrite must make of the four.
+#[test]
+fn truth_order_by_the_original() {
+    let renamed = [1, 0, 3, 2];
+    let (not, or) = (byte::QNot, byte::QOr);
+    let fold = |by: Operation, command, left, right| {
+        let load = |register, quad| leaves::load(register, Const::Quad(quad));
+        let instrs = [load(1, left), load(2, right), computed(command, 3, 1, 2)];
+        let expected = compare::expected(&one_function(&instrs, &[])).unwrap();
+        let cells = cells::cells(expected.written(by).unwrap());
+        assert_eq!(cells[3][..3], [byte::LoadQ, 3, 0]);
+        cells[3][3]
+    };
+    let rust = |command, left, right| fold(Operation::Rewrite, command, left, right);
+    let fuller = |command, left, right| fold(Operation::Fuller, command, left, right);
+    for left in 0..4u8 {
+        assert_eq!(fuller(byte::QTruthNot, left, 0), rust(not, left, 0));
+        for right in 0..4u8 {
+            let by_rust = |command, left: u8, right: u8| {
+                let quad = rust(command, renamed[left as usize], renamed[right as usize]);
+                renamed[quad as usize]
+            };
+            assert_eq!(fuller(byte::QTruthAnd, left, right), by_rust(byte::QAnd, left, right));
+            assert_eq!(fuller(byte::QTruthOr, left, right), by_rust(or, left, right));
+            let not_left = rust(not, left, 0);
+            assert_eq!(fuller(byte::QTruthImpl, left, right), by_rust(or, not_left, right));
+        }
+    }
+}
+
+/// The default rewrite and the passes leave the four, the fuller rewrite folds a chain of them.
+#[test]
+fn fuller_and_default() {
+    let quad = |register, quad| leaves::load(register, Const::Quad(quad));
+    let instrs = [
+        quad(1, 2),
+        quad(2, 1),
+        computed(byte::QTruthAnd, 3, 1, 2),
+        computed(byte::QAnd, 4, 3, 1),
+        computed(byte::QTruthNot, 5, 9, 0),
+    ];
+    let image = one_function(&instrs, &[]);
+    let expected = compare::expected(&image).unwrap();
+    for operation in ORIGINALS {
+        assert_eq!(expected.written(operation).unwrap(), image);
+    }
+    // T and F is F; in the approximation order F and T have N below them; register 9 is unknown.
+    let folded = [instrs[0], instrs[1], quad(3, 1), quad(4, 0), instrs[4]];
+    assert_eq!(expected.written(Operation::Fuller).unwrap(), one_function(&folded, &[]));
+    let text = program::text(Operation::Fuller, &image).unwrap();
+    assert!(text.ends_with("\n43050009000000000000000000000000\nrewrites 2\n"), "{text}");
+    assert!(program::text(Operation::Rewrite, &image).unwrap().ends_with("\nrewrites 0\n"));
 }
 
 #[test]
@@ -204,9 +468,13 @@ fn printed_example() {
     ];
     let written = expected.written(Operation::Rewrite).unwrap();
     assert_eq!(compare::hexadecimal(written), lines.join("\n"));
-    assert_eq!(program::text(&image).unwrap(), format!("{}\nrewrites 1\n", lines.join("\n")));
-    assert_eq!(program::text(&[]).unwrap(), "rewrites 0\n");
-    assert_eq!(program::text(&[0]).unwrap(), "refused 1 0 0\n");
+    // None of the four is in it: both rewrites write it.
+    for operation in [Operation::Rewrite, Operation::Fuller] {
+        let text = |image: &[u8]| program::text(operation, image).unwrap();
+        assert_eq!(text(&image), format!("{}\nrewrites 1\n", lines.join("\n")));
+        assert_eq!(text(&[]), "rewrites 0\n");
+        assert_eq!(text(&[0]), "refused 1 0 0\n");
+    }
 }
 
 #[test]
@@ -263,5 +531,15 @@ fn sample_is_replayed() {
     println!("{text}");
     assert_eq!(sample::make(1).unwrap().0, bytes);
     assert!(sample::replay(&bytes, &Model).unwrap() >= 300);
-    assert!(sample::replay(&bytes, &Wrong { fault: Fault::OnlyPretendsToFold }).is_err());
+    let faults = FAULTS.iter().filter(|fault| format!("{fault:?}").contains("Fuller"));
+    let others = [Fault::OnlyPretendsToFold, Fault::DefaultFoldsTruthOrder];
+    for fault in faults.chain(&others) {
+        assert!(sample::replay(&bytes, &Wrong { fault: *fault }).is_err(), "{fault:?}");
+    }
+}
+
+/// The sample that is kept is the one that seed 1 makes.
+#[test]
+fn kept_sample() {
+    assert!(sample::make(1).unwrap().0 == include_bytes!("../sample.bin"));
 }

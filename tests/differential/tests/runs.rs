@@ -1,7 +1,10 @@
 //! The running rule's reading, and that the claims fail where they must.
 
 use differential::cells::Cell;
-use differential::generate::{computed, jmp, jmp_if, label, load_i32, ret, store_var};
+use differential::driver::records;
+use differential::generate::{
+    computed, jmp, jmp_if, label, load_i32, one_function, ret, store_var,
+};
 use differential::leaves::{self, Const};
 use differential::legacy_lowering::byte;
 use differential::random::Random;
@@ -59,6 +62,9 @@ fn ends() {
             Cause::NoResult,
             vec![0, 0, 0, 1, 1],
         ),
+        // A truth-order command is computed: no entry but the end's.
+        (vec![computed(byte::QTruthOr, 3, 10, 11)], Cause::LastCell, vec![0, 1, 1, 1, 1]),
+        (vec![computed(byte::QTruthOr, 3, 10, 8)], Cause::UnfitOperand, vec![0, 1, 1, 1, 1]),
     ];
     for (instrs, cause, lengths) in rows {
         assert_eq!(end(&instrs, &registers), (Some(cause), lengths), "{instrs:02X?}");
@@ -77,6 +83,106 @@ fn equality_with_other_is_an_action() {
     registers[1] = Value::Other(5);
     let sum = [computed(byte::AddI32, 3, 1, 1)];
     assert_eq!(end(&sum, &registers).0, Some(Cause::UnfitOperand));
+}
+
+/// A register's value at the end of commands on F in register 1, T in 2, N in 3 and S in 4.
+fn value_after(instrs: &[Cell], register: usize) -> Value {
+    let mut registers = registers();
+    for (register, quad) in [(1, 1), (2, 2), (3, 0), (4, 3)] {
+        registers[register] = Value::Const(Const::Quad(quad));
+    }
+    let mut run = Run::new(instrs, &registers, OUTSIDE);
+    for _ in instrs {
+        run.step();
+    }
+    assert_eq!(run.entries.len(), 1);
+    run.entries[0].registers[register]
+}
+
+#[test]
+fn truth_order_commands_are_computed() {
+    let quad = |quad| Value::Const(Const::Quad(quad));
+    // T and F is F, N or S is T, not F is T, S implies F is S.
+    assert_eq!(value_after(&[computed(byte::QTruthAnd, 9, 2, 1)], 9), quad(1));
+    assert_eq!(value_after(&[computed(byte::QTruthOr, 9, 3, 4)], 9), quad(2));
+    assert_eq!(value_after(&[computed(byte::QTruthNot, 9, 1, 0)], 9), quad(2));
+    assert_eq!(value_after(&[computed(byte::QTruthImpl, 9, 4, 1)], 9), quad(3));
+    // One feeds the next, and a QAnd: N and S is F, not F is T, the lower bound of T and F is N.
+    let chain = [
+        computed(byte::QTruthAnd, 9, 3, 4),
+        computed(byte::QTruthNot, 9, 9, 0),
+        computed(byte::QAnd, 9, 9, 1),
+    ];
+    assert_eq!(value_after(&chain, 9), quad(0));
+}
+
+#[test]
+fn truth_order_commands_end_the_run_on_unfit_operands() {
+    for command in leaves::TRUTH_ORDER {
+        let instrs = [computed(command, 9, 1, 2), store_var(9, None, None)];
+        let quad = Value::Const(Const::Quad(2));
+        let mut registers = registers();
+        (registers[1], registers[2]) = (quad, quad);
+        // The store's entry, then the end's.
+        assert_eq!(end(&instrs, &registers), (Some(Cause::LastCell), vec![0, 0, 2, 2, 2]));
+        let unfit = (Some(Cause::UnfitOperand), vec![0, 1, 1, 1, 1]);
+        for wrong in [Value::Const(Const::Bool(true)), Value::Const(Const::I32(2)), Value::Other(2)]
+        {
+            registers[1] = wrong;
+            assert_eq!(end(&instrs, &registers), unfit, "{command:02X} {wrong:?}");
+            registers[1] = quad;
+            if command != byte::QTruthNot {
+                registers[2] = wrong;
+                assert_eq!(end(&instrs, &registers), unfit, "{command:02X} {wrong:?}");
+                registers[2] = quad;
+            }
+        }
+    }
+}
+
+/// Functions as sent, and as wrong rewrites would return them.
+#[test]
+fn the_claims_tell_truth_order_folds_apart() {
+    let load = |register, quad| leaves::load(register, Const::Quad(quad));
+    let store = store_var(3, None, None);
+    let (n, f, t, s) = (0, 1, 2, 3);
+    let rows = [
+        (byte::QTruthAnd, t, f, f),
+        (byte::QTruthAnd, n, s, f),
+        (byte::QTruthOr, t, f, t),
+        (byte::QTruthOr, n, s, t),
+        (byte::QTruthImpl, s, f, s),
+        (byte::QTruthNot, n, n, n),
+        (byte::QTruthNot, t, t, f),
+    ];
+    for (command, left, right, result) in rows {
+        let sent = [load(1, left), load(2, right), computed(command, 3, 1, 2), store];
+        for quad in 0..4 {
+            let returned = [sent[0], sent[1], load(3, quad), store];
+            let claims = claims(&sent, &returned, &registers(), OUTSIDE, 40);
+            assert_eq!(claims.is_ok(), quad == result, "{command:02X} {left} {right}: {quad}");
+        }
+    }
+    // Unfit operands end the run as sent, and a fold would go on.
+    let sent = [load(1, t), leaves::load(2, Const::Bool(true)), computed(byte::QTruthOr, 3, 1, 2)];
+    let returned = [sent[0], sent[1], load(3, t)];
+    assert!(claims(&sent, &returned, &registers(), OUTSIDE, 40).is_err());
+}
+
+/// What both rewrites return is run, once where it is the same.
+#[test]
+fn both_rewrites_are_run() {
+    let quad = leaves::load(1, Const::Quad(2));
+    let rows = [
+        (vec![quad, computed(byte::QTruthNot, 2, 1, 0)], 6),
+        (vec![quad, computed(byte::QNot, 2, 1, 0)], 3),
+        (vec![computed(byte::QTruthNot, 2, 1, 0)], 3),
+    ];
+    for (instrs, pairs) in rows {
+        let image = one_function(&instrs, &[]);
+        let (runs, _) = records(&image, &mut Random::new(1), 3).unwrap();
+        assert_eq!(runs, pairs, "{instrs:02X?}");
+    }
 }
 
 #[test]

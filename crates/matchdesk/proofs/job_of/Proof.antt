@@ -1,29 +1,65 @@
 -- `matchdesk::job_of` meets its contract.
-use mathlib.Core.Path.{_∙_}
-use Rattle.matchdesk.specs.Program.{rewriteWord, bytesWord, checkWord, askedFor}
+use mathlib.Core.Path.{_≡_, _∙_}
+use mathlib.Core.Bool.{false}
+use mathlib.Core.List.{List}
+use Prim.Native.Nat.{ℕ}
+use denote.Ref.{now}
+use Rattle.matchdesk.specs.Program.{sameBytes, rewriteWord, fullerWord, bytesWord, checkWord, askedFor}
 use Rattle.matchdesk.proofs.Words.{same-test}
 use borrow.Author.Needs.{needs}
 use Rattle.matchdesk.proofs.job_of.Statement.{statement}
 use Rattle.matchdesk.proofs.job_of.Tie as tie
 
-returns : tie.Need-returns
-unfolding askedFor
-returns c = rw (same-test _ _ rewriteWord (c .before .same .ensures) ∙ c .if1 .taken)
+-- ---- past a test, the word is none of those before
 
-returns-2 : tie.Need-returns-2
-unfolding askedFor
-returns-2 c =
-    rw (same-test _ _ rewriteWord (c .before .before .before .before .same .ensures) ∙ c .before .before .before .if1 .left, same-test _ _ bytesWord (c .before .same2 .ensures) ∙ c .if2 .taken)
+abbrev word₁ : tie.Else1 → List ℕ
+word₁ c = now (c .before .before .before .before .args .word)
 
-returns-3 : tie.Need-returns-3
-unfolding askedFor
-returns-3 c =
-    rw (same-test _ _ rewriteWord (c .before .before .before .before .before .before .before .same .ensures) ∙ c .before .before .before .before .before .before .if1 .left, same-test _ _ bytesWord (c .before .before .before .before .same2 .ensures) ∙ c .before .before .before .if2 .left, same-test _ _ checkWord (c .before .same3 .ensures) ∙ c .if3 .taken)
+abbrev word₂ : tie.Else2 → List ℕ
+word₂ c = word₁ (c .before .before .before)
 
-returns-4 : tie.Need-returns-4
+abbrev word₃ : tie.Else3 → List ℕ
+word₃ c = word₂ (c .before .before .before)
+
+not-rewrite : (c : tie.Else1) → sameBytes (word₁ c) rewriteWord ≡ false
+not-rewrite c = same-test _ _ rewriteWord (c .before .same .ensures) ∙ c .if1 .left
+
+not-fuller : (c : tie.Else2) → sameBytes (word₂ c) fullerWord ≡ false
+not-fuller c = same-test _ _ fullerWord (c .before .same2 .ensures) ∙ c .if2 .left
+
+not-bytes : (c : tie.Else3) → sameBytes (word₃ c) bytesWord ≡ false
+not-bytes c = same-test _ _ bytesWord (c .before .same3 .ensures) ∙ c .if3 .left
+
+-- ---- the answers
+
+is-rewrite : tie.Need-returns
 unfolding askedFor
-returns-4 c =
-    rw (same-test _ _ rewriteWord (c .before .before .before .before .before .before .before .same .ensures) ∙ c .before .before .before .before .before .before .if1 .left, same-test _ _ bytesWord (c .before .before .before .before .same2 .ensures) ∙ c .before .before .before .if2 .left, same-test _ _ checkWord (c .before .same3 .ensures) ∙ c .if3 .left)
+is-rewrite c = rw (same-test _ _ rewriteWord (c .before .same .ensures) ∙ c .if1 .taken)
+
+is-fuller : tie.Need-returns-2
+unfolding askedFor
+is-fuller c =
+    rw (not-rewrite (c .before .before .before), same-test _ _ fullerWord (c .before .same2 .ensures) ∙ c .if2 .taken)
+
+is-bytes : tie.Need-returns-3
+unfolding askedFor
+is-bytes c =
+    let d = c .before .before .before in
+    rw (not-rewrite (d .before .before .before), not-fuller d, same-test _ _ bytesWord (c .before .same3 .ensures) ∙ c .if3 .taken)
+
+is-check : tie.Need-returns-4
+unfolding askedFor
+is-check c =
+    let e = c .before .before .before in
+    let d = e .before .before .before in
+    rw (not-rewrite (d .before .before .before), not-fuller d, not-bytes e, same-test _ _ checkWord (c .before .same4 .ensures) ∙ c .if4 .taken)
+
+is-none : tie.Need-returns-5
+unfolding askedFor
+is-none c =
+    let e = c .before .before .before in
+    let d = e .before .before .before in
+    rw (not-rewrite (d .before .before .before), not-fuller d, not-bytes e, same-test _ _ checkWord (c .before .same4 .ensures) ∙ c .if4 .left)
 
 pub job-of-spec : {M : Type 1} → statement M
 job-of-spec =
@@ -31,11 +67,14 @@ job-of-spec =
     (tie.spec
     (λ c. search needs)
     (λ c κs. search needs)
-    returns
+    is-rewrite
     (λ c. search needs)
     (λ c κs. search needs)
-    returns-2
+    is-fuller
     (λ c. search needs)
     (λ c κs. search needs)
-    returns-3
-    returns-4)
+    is-bytes
+    (λ c. search needs)
+    (λ c κs. search needs)
+    is-check
+    is-none)

@@ -2,6 +2,7 @@
 use mathlib.Core.Path.{refl}
 use native.Mathlib.Omega.{arith}
 use denote.Ref.{now}
+use Rattle.crystalfold.specs.declared.rules.RuleSet.the-variants.{Default}
 use Rattle.matchdesk.specs.Program.{answerText, answerBytes, programTexts, workAfter}
 use Rattle.matchdesk.proofs.Replies.{reply-fits, said}
 use Rattle.matchdesk.proofs.Texts.{none-counted, only-output}
@@ -11,27 +12,27 @@ use Rattle.matchdesk.proofs.run.Tie as tie
 
 answer-text-requires : tie.Need-answer-text-requires
 answer-text-requires c κs =
-    let s = c .before .before .before .before .before .before .before .before .before .before .before .before in
-    let w = c .before .before .before .before .run-default-opt-passes in
-    reply-fits (now (s .args .image)) (now (s .args .work)) _ _ (w .ensures) (omega (arith, w .kept)) _ (s .pre .for-output)
+    let s = c .before .before .before .before .before .before .before .before .before .before .before .before .before in
+    let w = c .before .before .before .before .run-opt-passes in
+    reply-fits _ (now (s .args .image)) (now (s .args .work)) _ _ (w .ensures) (omega (arith, w .kept)) _ (s .pre .for-output)
 
 answer-bytes-requires : tie.Need-answer-bytes-requires
 answer-bytes-requires c κs =
     let s = c .before .before .before .before .before .before .before .before .before .before .before .before .before in
-    let w = c .before .before .before .before .before .run-default-opt-passes2 in
-    (reply-fits (now (s .args .image)) (now (s .args .work)) _ _ (w .ensures) (omega (arith, w .kept)) _ (s .pre .for-output), s .pre .for-error)
+    let w = c .before .before .before .before .before .run-default-opt-passes in
+    (reply-fits Default (now (s .args .image)) (now (s .args .work)) _ _ (w .ensures) (omega (arith, w .kept)) _ (s .pre .for-output), s .pre .for-error)
 
 returns : tie.Need-returns
 unfolding programTexts workAfter
 returns c =
-    let s = c .before .before .before .before .before .before .before .before .before .before .before .before .before .before .before in
-    let e = c .before .before .before .before .before .before .before .before .before .enum-told .given .1 in
-    let w = c .before .before .before .before .before .before .before .run-default-opt-passes .ensures in
+    let s = c .before .before .before .before .before .before .before .before .before .before .before .before .before .before .before .before in
+    let j = c .before .before .before .before .before .before .before .before .before .before .job .given in
+    let w = c .before .before .before .before .before .before .before .run-opt-passes .ensures in
     let v = c .before .before .answer-text .ensures in (
       (v .0, none-counted (now (s .args .error))),
       (
-        rw (e, said (now (s .args .image)) (now (s .args .work)) _ answerText (λ x s t. refl) _ w (s .pre .for-work)) (only-output (v .1) (now (s .args .error))),
-        rw e (w .done .bytes),
+        rw (j .1, said (j .0 .0) (now (s .args .image)) (now (s .args .work)) _ answerText (λ x s t. refl) _ w (s .pre .for-work)) (only-output (v .1) (now (s .args .error))),
+        rw (j .1) (w .done .bytes),
       ),
     )
 
@@ -39,12 +40,12 @@ returns-2 : tie.Need-returns-2
 unfolding programTexts workAfter
 returns-2 c =
     let s = c .before .before .before .before .before .before .before .before .before .before .before .before .before .before .before .before .before .before in
-    let e = c .before .before .before .before .before .before .before .before .before .before .before .before .enum-told2 .given .1 in
-    let w = c .before .before .before .before .before .before .before .before .before .before .run-default-opt-passes2 .ensures in
+    let e = c .before .before .before .before .before .before .before .before .before .before .before .before .enum-told .given .1 in
+    let w = c .before .before .before .before .before .before .before .before .before .before .run-default-opt-passes .ensures in
     let v = c .before .before .before .before .answer-bytes .ensures in (
       v .0,
       (
-        rw (e, said (now (s .args .image)) (now (s .args .work)) _ answerBytes (λ x s t. refl) _ w (s .pre .for-work)) (v .1),
+        rw (e, said Default (now (s .args .image)) (now (s .args .work)) _ answerBytes (λ x s t. refl) _ w (s .pre .for-work)) (v .1),
         rw e (w .done .bytes),
       ),
     )
@@ -53,7 +54,7 @@ returns-3 : tie.Need-returns-3
 unfolding programTexts workAfter
 returns-3 c =
     let s = c .before .before .before .before .before .before .before .before .before .before .before in
-    let e = c .before .before .before .before .before .enum-told3 .given .1 in
+    let e = c .before .before .before .before .before .enum-told2 .given .1 in
     let v = c .before .before .check-line .ensures in (
       (v .0, none-counted (now (s .args .error))),
       (

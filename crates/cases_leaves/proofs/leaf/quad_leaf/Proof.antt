@@ -26,9 +26,25 @@ unfolding pick
 returns-5 c = simp (c .of-quad4 .ensures, c .before .qnot .ensures, c .before .before .quad-of8 .ensures, c .before .before .before .match .keys5)
 
 returns-6 : tie.Need-returns-6
-returns-6 c =
+unfolding pick
+returns-6 c = simp (c .of-quad5 .ensures, c .before .qtruth-and .ensures, c .before .before .quad-of10 .ensures, c .before .before .before .quad-of9 .ensures, c .before .before .before .before .match .keys6)
+
+returns-7 : tie.Need-returns-7
+unfolding pick
+returns-7 c = simp (c .of-quad6 .ensures, c .before .qtruth-or .ensures, c .before .before .quad-of12 .ensures, c .before .before .before .quad-of11 .ensures, c .before .before .before .before .match .keys7)
+
+returns-8 : tie.Need-returns-8
+unfolding pick
+returns-8 c = simp (c .of-quad7 .ensures, c .before .qtruth-impl .ensures, c .before .before .quad-of14 .ensures, c .before .before .before .quad-of13 .ensures, c .before .before .before .before .match .keys8)
+
+returns-9 : tie.Need-returns-9
+unfolding pick
+returns-9 c = simp (c .of-quad8 .ensures, c .before .qtruth-not .ensures, c .before .before .quad-of15 .ensures, c .before .before .before .match .keys9)
+
+returns-10 : tie.Need-returns-10
+returns-10 c =
     let not = c .match .rest in
-    none-from-0 _ _ (not .0 .0 .0 .0 .1, (not .0 .0 .0 .1, (not .0 .0 .1, (not .0 .1, (not .1, tt)))))
+    none-from-0 _ _ (not .0 .0 .0 .0 .0 .0 .0 .0 .1, (not .0 .0 .0 .0 .0 .0 .0 .1, (not .0 .0 .0 .0 .0 .0 .1, (not .0 .0 .0 .0 .0 .1, (not .0 .0 .0 .0 .1, (not .0 .0 .0 .1, (not .0 .0 .1, (not .0 .1, (not .1, tt)))))))))
 
 pub quad-leaf-spec : {M : Type 1} → statement M
 quad-leaf-spec =
@@ -52,9 +68,28 @@ quad-leaf-spec =
     (λ c κs. search needs)
     (λ c κs. search needs)
     (λ c κs. search needs)
+    (λ c κs. search needs)
+    (λ c κs. search needs)
+    (λ c κs. search needs)
+    (λ c κs. search needs)
+    (λ c κs. search needs)
+    (λ c κs. search needs)
+    (λ c κs. search needs)
+    (λ c κs. search needs)
+    (λ c κs. search needs)
+    (λ c κs. search needs)
+    (λ c κs. search needs)
+    (λ c κs. search needs)
+    (λ c κs. search needs)
+    (λ c κs. search needs)
+    (λ c κs. search needs)
     returns
     returns-2
     returns-3
     returns-4
     returns-5
-    returns-6)
+    returns-6
+    returns-7
+    returns-8
+    returns-9
+    returns-10)

@@ -26,9 +26,13 @@ returns-5 c = simp (c .match .keys5)
 
 returns-6 : tie.Need-returns-6
 unfolding askedBy
-returns-6 c =
+returns-6 c = simp (c .match .keys6)
+
+returns-7 : tie.Need-returns-7
+unfolding askedBy
+returns-7 c =
     let not = c .match .rest in
-    simp (ne-eqb _ _ (not .0 .0 .0 .0 .1), ne-eqb _ _ (not .0 .0 .0 .1), ne-eqb _ _ (not .0 .0 .1), ne-eqb _ _ (not .0 .1), ne-eqb _ _ (not .1))
+    simp (ne-eqb _ _ (not .0 .0 .0 .0 .0 .1), ne-eqb _ _ (not .0 .0 .0 .0 .1), ne-eqb _ _ (not .0 .0 .0 .1), ne-eqb _ _ (not .0 .0 .1), ne-eqb _ _ (not .0 .1), ne-eqb _ _ (not .1))
 
 pub asked-by-spec : {M : Type 1} → statement M
-asked-by-spec = tie.close (tie.spec returns returns-2 returns-3 returns-4 returns-5 returns-6)
+asked-by-spec = tie.close (tie.spec returns returns-2 returns-3 returns-4 returns-5 returns-6 returns-7)

@@ -25,10 +25,18 @@ returns-5 c =
     let d = c .before .before .before .run-default-opt-passes .ensures .done in
     simp (c .of-rewrite3 .ensures, d .answer, d .bytes, c .before .before .before .before .before .enum-told5 .given .1) (refl, refl)
 
+returns-6 : tie.Need-returns-6
+returns-6 c =
+    let d = c .before .before .before .run-fuller-opt-passes .ensures .done in
+    simp (c .of-rewrite4 .ensures, d .answer, d .bytes, c .before .before .before .before .before .enum-told6 .given .1) (refl, refl)
+
 pub run-spec : {M : Type 1} → statement M
 run-spec =
     tie.close
     (tie.spec
+    (λ c. search needs)
+    (λ c κs. search needs)
+    (λ c κs. search needs)
     (λ c. search needs)
     (λ c κs. search needs)
     (λ c κs. search needs)
@@ -51,4 +59,6 @@ run-spec =
     (λ c. search needs)
     returns-4
     (λ c. search needs)
-    returns-5)
+    returns-5
+    (λ c. search needs)
+    returns-6)
