@@ -106,12 +106,12 @@ size_t matchdesk_cleanup(const unsigned char *image, size_t image_length, unsign
 /* CrystalFold of every function. */
 size_t matchdesk_crystalfold(const unsigned char *image, size_t image_length, unsigned char *out, size_t out_length, size_t *first, size_t *second);
 
-/* The whole rewrite: cleanup of every function, then CrystalFold of every function. */
+/* The default rewrite: cleanup of every function, then CrystalFold of every function. */
 size_t matchdesk_rewrite(const unsigned char *image, size_t image_length, unsigned char *out, size_t out_length, size_t *first, size_t *second);
 
 /*
- * The fuller rewrite: as the whole rewrite, but that CrystalFold also folds the truth-order quads QTruthAnd, QTruthOr, QTruthNot and QTruthImpl,
- * which matchdesk_crystalfold and matchdesk_rewrite leave as they are. It refuses as the whole rewrite.
+ * The fuller rewrite: as the default one, except that CrystalFold also folds the truth-order quads QTruthAnd, QTruthOr, QTruthNot and QTruthImpl,
+ * which matchdesk_crystalfold and matchdesk_rewrite leave as they are. It refuses as the default one.
  */
 size_t matchdesk_rewrite_fuller(const unsigned char *image, size_t image_length, unsigned char *out, size_t out_length, size_t *first, size_t *second);
 

@@ -1,5 +1,5 @@
--- Inner: the operations of documents 01 and 02 by their bytes in a file of cases (tests/images/README.md), what each answers by the document's numbers, and what
--- it leaves in a lent output.
+-- Inner: the operations of documents 01 and 02 by their bytes in a file of cases (tests/images/README.md), what each answers by document 01's
+-- numbers, and what it leaves in a lent output.
 use Prim.Native.Nat.{ℕ}
 use mathlib.Core.List.{List}
 use mathlib.Core.Bool.{Bool, false, cond}

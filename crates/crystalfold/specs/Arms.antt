@@ -17,6 +17,8 @@ use Rattle.leaves.specs.Signed.{addI32, subI32, mulI32, divI32, modI32}
 use Rattle.leaves.specs.Unsigned.{addU32, subU32, mulU32, divU32, modU32}
 use Rattle.leaves.specs.Fixed.{addFx, subFx, mulFx, divFx}
 use Rattle.leaves.specs.Quads.{qAnd, qOr, qNot, qImpl, qTruthAnd, qTruthOr, qTruthNot, qTruthImpl}
+use Rattle.crystalfold.specs.declared.rules.RuleSet.{RuleSet}
+use Rattle.crystalfold.specs.declared.rules.RuleSet.the-variants.{Default, Fuller}
 
 -- a command and what an arm has for it
 pub record Choice (B : Type 0) : Type 0 where
@@ -30,6 +32,11 @@ choice o b = record { key = o; gives = b }
 abbrev pub chosen : {B : Type 0} → B → ℕ → List (Choice B) → B
 chosen d o [] = d
 chosen d o (c ∷ cs) = cond (eqb o (c .key)) (c .gives) (chosen d o cs)
+
+-- what a command that only the fuller rules have comes to
+abbrev pub onlyFuller : RuleSet → Verdict → Verdict
+onlyFuller Default v = NotComputed
+onlyFuller Fuller v = v
 
 -- of two operands of one kind
 abbrev pub Leaves : Type 0 → Type 0

@@ -1,7 +1,7 @@
 -- Laws that show the definitions of specs/Quads.antt to be the right ones: each order is a partial order with the bounds `meet` and `join`.
 use mathlib.Core.Path.{_≡_, refl, sym, _∙_, ap}
 use mathlib.Core.Bool.{Bool, true, false, not, _&&_, _||_, Bool·beq}
-use mathlib.Core.List.{List, [], _∷_, map}
+use mathlib.Core.List.{[], _∷_, map}
 use Prim.Native.Nat.{ℕ, _<_}
 use native.Mathlib.Omega.{arith}
 use lib.Dec as Dec
@@ -82,7 +82,7 @@ pub record Lattice (below : Order) : Type 0 where
   pub greatest-lower : (a b x : Quad) → Dec.T (Bool·beq (below x (meet below a b)) (below x a && below x b))
   pub least-upper : (a b x : Quad) → Dec.T (Bool·beq (below (join below a b) x) (below a x && below b x))
 
--- an order is one if the tests pass at all 64
+-- an order is one if the tests pass everywhere
 lattice : (below : Order)
     → Dec.T (every (λ (a : Quad). below a a))
     → Dec.T (every2 (λ (a b : Quad). not (below a b && below b a) || qSame a b))
@@ -123,10 +123,10 @@ ByTold u v g =
 
 by-told : (u v : Bool → Bool → Bool) (g : Quad → Quad → Quad)
     → Dec.T (every2 (λ (a b : Quad). qSame (ofTold (u (toldFalse a) (toldFalse b)) (v (toldTrue a) (toldTrue b))) (g a b))) → ByTold u v g
-by-told u v g every a b f f' t t' e e' d d' =
+by-told u v g passes a b f f' t t' e e' d d' =
     let same : ofTold (u (toldFalse a) (toldFalse b)) (v (toldTrue a) (toldTrue b)) ≡ g a b =
     same-quad (ofTold (u (toldFalse a) (toldFalse b)) (v (toldTrue a) (toldTrue b))) (g a b)
-    (every2-at (λ (a b : Quad). qSame (ofTold (u (toldFalse a) (toldFalse b)) (v (toldTrue a) (toldTrue b))) (g a b)) every a b) in
+    (every2-at (λ (a b : Quad). qSame (ofTold (u (toldFalse a) (toldFalse b)) (v (toldTrue a) (toldTrue b))) (g a b)) passes a b) in
     cc
 
 -- in the approximation order: what both have been told, what either has been told

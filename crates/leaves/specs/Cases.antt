@@ -1,6 +1,6 @@
--- Worked: document 01's starred cases that belong to leaves ('Cells on either edge'), and document 02's truth-order quads (W2) at every two operands:
--- a table each, and one theorem of all its rows. A row is a command at two known operands and its verdict there; of the quads, a command at a left
--- operand and what it gives with each right one.
+-- Worked: document 01's starred cases that belong to leaves ('Cells on either edge'), each a command at two known operands and its verdict there; the
+-- two orders of the quads, each quad with what stands above it; and document 02's truth-order commands (W2), each at a left operand with its results
+-- for every right one. A table each, and one theorem of all its rows.
 --
 use Prim.Native.Nat.{ℕ}
 use mathlib.Core.Path.{_≡_, refl}
@@ -19,7 +19,7 @@ use Rattle.leaves.specs.Signed.{wrap, addI32, divI32, modI32}
 use Rattle.leaves.specs.Unsigned.{subU32}
 use Rattle.leaves.specs.Fixed.{mulFx}
 use Rattle.leaves.specs.Float.{floatOf}
-use Rattle.leaves.specs.Quads.{Order, meet, join, approxBelow, truthBelow, qAnd, qOr, qNot, qImpl, qTruthAnd, qTruthOr, qTruthNot, qTruthImpl}
+use Rattle.leaves.specs.Quads.{Order, meet, join, approxBelow, truthBelow, qAnd, qOr, qImpl, qTruthAnd, qTruthOr, qTruthNot, qTruthImpl}
 use Rattle.leaves.specs.Constants.{onQuad, onI32, onU32, onFx, constEq}
 
 -- ---- a leaf as a command on two known values
@@ -76,7 +76,7 @@ pub cases-hold : map run cases ≡ map (λ (c : LeafCase). c .result) cases
 unfolding wrap addI32 divI32 modI32 subU32 mulFx constEq floatOf Ieee.eq Ieee.ofBits meet join
 cases-hold = refl
 
--- ---- the truth order
+-- ---- the two orders
 
 -- what stands above a quad in an order, itself among them
 abbrev pub above : Order → Quad → List Quad
@@ -109,6 +109,8 @@ orders =
 
 pub orders-hold : map (λ (r : Above). above (r .order) (r .quad)) orders ≡ map (λ (r : Above). r .quads) orders
 orders-hold = refl
+
+-- ---- the truth-order commands
 
 pub record QuadRow : Type 0 where
   pub command : Quad → Quad → Quad

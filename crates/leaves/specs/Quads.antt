@@ -42,7 +42,8 @@ every f = f N && f F && f T && f S
 abbrev pub isMeet : Order → Quad → Quad → Quad → Bool
 isMeet below a b q = below q a && below q b && every (λ (x : Quad). not (below x a && below x b) || below x q)
 
--- the greatest lower bound: the one of the four that is it
+-- the greatest lower bound: the one of the four that is it. Both orders below have one for any two (leaves/proofs/QuadLaws.antt); where an order has
+-- none, S
 unfoldable pub meet : Order → Quad → Quad → Quad
 meet below a b = cond (isMeet below a b N) N (cond (isMeet below a b F) F (cond (isMeet below a b T) T S))
 

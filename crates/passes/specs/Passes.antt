@@ -8,7 +8,6 @@ use lib.ListN.{length}
 use Rattle.cells.specs.Answers.{orElse, unless}
 use Rattle.cells.specs.Cells.{cells, flat, over}
 use Rattle.cells.specs.Functions.{Function, functions, cellsOfAll}
-use Rattle.cells.specs.declared.refusal.Refusal.{Refusal}
 use Rattle.cells.specs.declared.refusal.Refusal.the-variants.{Length, OutputTooShort}
 use Rattle.cells.specs.declared.refusal.Checked.{Checked}
 use Rattle.cells.specs.declared.refusal.Checked.the-variants.{Good, Refused as RefusedBy}

@@ -136,6 +136,8 @@ truthCases =
     ∷ left (LoadQ 1 1 ∷ LoadBool 2 0 ∷ QTruthOr 3 1 2 ∷ [])
     ∷ left (LoadI32 1 1 ∷ LoadQ 2 1 ∷ QTruthImpl 3 1 2 ∷ [])
     ∷ left (LoadBool 1 1 ∷ QTruthNot 3 1 ∷ [])
+    -- both forget the dst of one that stays, so that QNot r3 r1 stays
+    ∷ left (LoadQ 1 2 ∷ LoadBool 2 1 ∷ QTruthAnd 1 1 2 ∷ unary 0x3F 3 1 ∷ [])
     -- nothing is known past a barrier
     ∷ left (LoadQ 1 1 ∷ Label 1 ∷ QTruthNot 3 1 ∷ [])
     ∷ left (LoadQ 1 1 ∷ ClockRead 2 ∷ QTruthNot 3 1 ∷ [])

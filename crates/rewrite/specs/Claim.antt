@@ -5,7 +5,8 @@
 --
 -- * The function handed back is what cleanup and then CrystalFold make of the one sent, with its head, instruction cells and event cells.
 --   `cleanFunction`: cleanup/specs/Cleanup.antt. `foldFunction`: crystalfold/specs/CrystalFold.antt; the rules f are those of its fold, a
---   table from command to meaning; those of the rule sets are `rulesOf`, and the Rust's `defaultRules` (crystalfold/specs/Rules.antt).
+--   table from command to meaning; those of the rule sets are `rulesOf`: the Rust's `defaultRules`, and document 02's `fullerRules`
+--   (crystalfold/specs/Rules.antt).
 --
 -- * Premise for the rest: in the function as sent, each label name stands at one place, that is, its Label cells follow one another with no
 --   other cell between. `OnePlace`: cleanup/specs/Premise.antt. Without it the rest is false: Label 1, Jmp 1, Label 1 loops as sent and ends as

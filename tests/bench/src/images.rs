@@ -14,6 +14,7 @@ pub fn rows() -> Vec<(&'static str, Vec<u8>)> {
         ("loads", instrs(|at| leaves::load(at % 256, value(at)))),
         ("overwritten loads", instrs(|at| load_i32(1, at as i32))),
         ("folds", instrs(folds)),
+        ("truth-order quads", instrs(truth_order)),
         ("unknown operands", instrs(|at| computed(COMPUTED[at % 8], at as u8, 7, 200))),
         ("borrow sites", borrow_sites()),
         ("write sites", write_sites()),
@@ -60,6 +61,15 @@ fn value(at: usize) -> Const {
         4 => Const::Bool(at % 4 == 0),
         _ => Const::Quad((at % 4) as u8),
     }
+}
+
+/// A load of each quad, then in every cell what only the fuller rewrite folds.
+fn truth_order(at: usize) -> Cell {
+    if at < 4 {
+        return leaves::load(at, Const::Quad(at as u8));
+    }
+    let (left, right) = (at / 4 % 4, at / 16 % 4);
+    computed(leaves::TRUTH_ORDER[at % 4], 16 + (at % 200) as u8, left as u8, right as u8)
 }
 
 /// A load of each kind, then a fold in every cell.

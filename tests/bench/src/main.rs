@@ -1,5 +1,5 @@
 //! Times the original's `run_default_opt_passes` and, with the feature `library`,
-//! the proved rewrite on the same images, in one process.
+//! the proved rewrites on the same images, in one process.
 
 mod images;
 #[cfg(feature = "library")]
@@ -59,13 +59,13 @@ fn main() {
 
     let ours = if cfg!(feature = "library") { "ours" } else { "(no library)" };
     println!(
-        "{:24} {:>6} {:>9} {:>12} {:>12} {:>12} {:>9} {:>9}",
-        "image", "cells", "rewrites", "passes", "with codec", ours, "ratio", "with codec"
+        "{:24} {:>6} {:>9} {:>12} {:>12} {:>12} {:>9} {:>10} {:>12}",
+        "image", "cells", "rewrites", "passes", "with codec", ours, "ratio", "with codec", "fuller"
     );
     for (name, image) in images::rows() {
         row(time, name, &image);
     }
-    println!("ratio: our time divided by the original's, without and with decoding and encoding");
+    println!("ratio: our time divided by the original's, without and with decoding and encoding; `fuller` is the time of the fuller rewrite");
 }
 
 /// Image and output shouldn't start at the same place of a page: writes then look to the
@@ -95,21 +95,24 @@ fn row(time: Duration, name: &str, image: &[u8]) {
             codec::encode(&functions)
         },
     );
-    let ours = measure_ours(time, image);
+    let ours = measure_ours(time, Operation::Rewrite, image);
+    let fuller = measure_ours(time, Operation::Fuller, image);
 
     let cells = image.len() / CELL;
     let text = |number: Option<f64>| number.map_or("-".into(), |number| format!("{number:.2}"));
+    let time = |time: Option<u128>| time.map_or("-".into(), |time| time.to_string());
     println!(
-        "{name:24} {cells:>6} {:>9} {passes:>12} {with_codec:>12} {:>12} {:>9} {:>9}",
+        "{name:24} {cells:>6} {:>9} {passes:>12} {with_codec:>12} {:>12} {:>9} {:>10} {:>12}",
         report.num_rewrites,
-        ours.map_or("-".into(), |ours| ours.to_string()),
+        time(ours),
         text(ours.map(|ours| ours as f64 / passes as f64)),
         text(ours.map(|ours| ours as f64 / with_codec as f64)),
+        time(fuller),
     );
 }
 
 #[cfg(feature = "library")]
-fn measure_ours(time: Duration, image: &[u8]) -> Option<u128> {
+fn measure_ours(time: Duration, operation: Operation, image: &[u8]) -> Option<u128> {
     use differential::answers::Operations;
     use differential::library::Library;
     let mut out = output(image.len());
@@ -118,7 +121,7 @@ fn measure_ours(time: Duration, image: &[u8]) -> Option<u128> {
         time,
         || (),
         |()| {
-            let answer = Library.rewrite(black_box(image), out);
+            let answer = Library.run(operation, black_box(image), out);
             black_box(&mut *out);
             answer.unwrap()
         },
@@ -126,7 +129,7 @@ fn measure_ours(time: Duration, image: &[u8]) -> Option<u128> {
 }
 
 #[cfg(not(feature = "library"))]
-fn measure_ours(_: Duration, _: &[u8]) -> Option<u128> {
+fn measure_ours(_: Duration, _: Operation, _: &[u8]) -> Option<u128> {
     None
 }
 

@@ -371,15 +371,15 @@ fn truth_order() -> Vec<Vec<u8>> {
             }
         }
         images.push(one_function(&pairs, &[]));
-        // F in register 1, T in 2, a bool in 3, and 4 unknown: neither quad decides alone.
-        let mut left = vec![quad(1, f), quad(2, t), bool(3)];
+        // F in register 1, T in 2, a bool in 3, and 4 unknown: a known quad alone decides nothing, but for QTruthNot.
+        let mut beside = vec![quad(1, f), quad(2, t), bool(3)];
         for (dst, other) in [(5, 3), (9, 4)] {
-            left.push(computed(command, dst, 1, other));
-            left.push(computed(command, dst + 1, 2, other));
-            left.push(computed(command, dst + 2, other, 1));
-            left.push(computed(command, dst + 3, other, 2));
+            beside.push(computed(command, dst, 1, other));
+            beside.push(computed(command, dst + 1, 2, other));
+            beside.push(computed(command, dst + 2, other, 1));
+            beside.push(computed(command, dst + 3, other, 2));
         }
-        images.push(one_function(&left, &[]));
+        images.push(one_function(&beside, &[]));
     }
 
     let and = |dst, lhs, rhs| computed(byte::QTruthAnd, dst, lhs, rhs);

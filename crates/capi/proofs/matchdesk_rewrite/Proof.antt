@@ -3,10 +3,6 @@ use Rattle.capi.proofs.Replied.{rewrite-replied}
 use borrow.Author.Needs.{needs}
 use Rattle.capi.proofs.matchdesk_rewrite.Statement.{statement}
 use Rattle.capi.proofs.matchdesk_rewrite.Tie as tie
-use Rattle.capi.proofs.matchdesk_rewrite.Reads as reads
-use Rattle.capi.proofs.matchdesk_rewrite.Lts as lts
-use Rattle.capi.proofs.reply_of_rewrite.Reads as reply-of-rewrite-reads
-use Rattle.passes.proofs.run_default_opt_passes.Reads as run-default-opt-passes-reads
 
 returns : tie.Need-returns
 returns c =

@@ -3,10 +3,6 @@ use Rattle.capi.proofs.Replied.{rewrite-replied}
 use borrow.Author.Needs.{needs}
 use Rattle.capi.proofs.matchdesk_rewrite_fuller.Statement.{statement}
 use Rattle.capi.proofs.matchdesk_rewrite_fuller.Tie as tie
-use Rattle.capi.proofs.matchdesk_rewrite_fuller.Reads as reads
-use Rattle.capi.proofs.matchdesk_rewrite_fuller.Lts as lts
-use Rattle.capi.proofs.reply_of_rewrite.Reads as reply-of-rewrite-reads
-use Rattle.passes.proofs.run_fuller_opt_passes.Reads as run-fuller-opt-passes-reads
 
 returns : tie.Need-returns
 returns c =

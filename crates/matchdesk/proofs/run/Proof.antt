@@ -27,11 +27,12 @@ unfolding programTexts workAfter
 returns c =
     let s = c .before .before .before .before .before .before .before .before .before .before .before .before .before .before .before .before in
     let j = c .before .before .before .before .before .before .before .before .before .before .job .given in
+    let rules = j .0 .0 in
     let w = c .before .before .before .before .before .before .before .run-opt-passes .ensures in
     let v = c .before .before .answer-text .ensures in (
       (v .0, none-counted (now (s .args .error))),
       (
-        rw (j .1, said (j .0 .0) (now (s .args .image)) (now (s .args .work)) _ answerText (λ x s t. refl) _ w (s .pre .for-work)) (only-output (v .1) (now (s .args .error))),
+        rw (j .1, said rules (now (s .args .image)) (now (s .args .work)) _ answerText (λ x s t. refl) _ w (s .pre .for-work)) (only-output (v .1) (now (s .args .error))),
         rw (j .1) (w .done .bytes),
       ),
     )

@@ -5,9 +5,6 @@ use Rattle.passes.proofs.Done.{pass-done, rewrite-done}
 use borrow.Author.Needs.{needs}
 use Rattle.passes.proofs.run_opt_passes.Statement.{statement}
 use Rattle.passes.proofs.run_opt_passes.Tie as tie
-use Rattle.passes.proofs.run_opt_passes.Reads as reads
-use Rattle.passes.proofs.run_opt_passes.Lts as lts
-use Rattle.passes.proofs.run.Reads as run-reads
 
 returns : tie.Need-returns
 returns c =
