@@ -23,17 +23,11 @@ asQuad q = Value (QuadV q)
 abbrev keys : {B : Type 0} → List (Choice B) → List ℕ
 keys {B} cs = map (λ (c : Choice B). c .key) cs
 
-pub not-chosen : {B : Type 0} (d : B) (cs : List (Choice B)) (o : ℕ) → Missed (singly (keys cs)) o → covered (singly (keys cs)) (keys cs) ≡ true → chosen d o cs ≡ d
-not-chosen {B} d all o m = go all
-  where
-    kss : List (List ℕ)
-    kss = singly (keys all)
-
-    go : (cs : List (Choice B)) → covered kss (keys cs) ≡ true → chosen d o cs ≡ d
-    go [] c = refl
-    go (x ∷ xs) c =
-        let (y, z) = and-true (listed kss (x .key)) (covered kss (keys xs)) c in
-        ap (λ (t : Bool). cond t (x .gives) (chosen d o xs)) (missed-test kss o m (x .key) (T-of (listed kss (x .key)) y)) ∙ go xs z
+pub not-chosen : {B : Type 0} (d : B) (kss : List (List ℕ)) (cs : List (Choice B)) (o : ℕ) → Missed kss o → covered kss (keys cs) ≡ true → chosen d o cs ≡ d
+not-chosen d kss [] o m c = refl
+not-chosen d kss (x ∷ xs) o m c =
+    let (y, z) = and-true (listed kss (x .key)) (covered kss (keys xs)) c in
+    ap (λ (t : Bool). cond t (x .gives) (chosen d o xs)) (missed-test kss o m (x .key) (T-of (listed kss (x .key)) y)) ∙ not-chosen d kss xs o m z
 
 pub no-leaf : {A : Type 0} (cs : Leaves A) (o : ℕ) (a b : A) → Missed (singly (keys cs)) o → covered (singly (keys cs)) (keys cs) ≡ true → NotComputed ≡ leafOf o cs a b
-no-leaf {A} cs o a b m c = sym (ap (λ (g : A → A → Verdict). g a b) (not-chosen (λ (a b : A). NotComputed) cs o m c))
+no-leaf {A} cs o a b m c = sym (ap (λ (g : A → A → Verdict). g a b) (not-chosen (λ (a b : A). NotComputed) (singly (keys cs)) cs o m c))

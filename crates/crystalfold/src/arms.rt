@@ -3,7 +3,7 @@ ghost use mathlib.Core.Path.{_≡_};
 ghost use mathlib.Core.Option.{some};
 ghost use Rattle.leaves.specs.Verdicts.{ifKnown};
 ghost use Rattle.machine.specs.Evaluate.{twoF64, twoFx, twoI32, twoU32, twoBool, twoQuad, evaluate};
-ghost use Rattle.crystalfold.specs.Rules.{rulesOf, defaultRules};
+ghost use Rattle.crystalfold.specs.Rules.{rulesOf};
 ghost use Rattle.crystalfold.specs.Arms.{onlyFuller, leafOf, f64Leaves, fxLeaves, i32Leaves, u32Leaves, boolLeaves, quadLeaves, equalityLeaves};
 use crate::rules::RuleSet;
 use leaves::compare;
@@ -17,31 +17,9 @@ use leaves::unsigned;
 use leaves::verdict;
 use leaves::verdict::Verdict;
 
+// The commands by their operands' kinds: an arm each, so that its call knows the command.
 pub fn fold_value(rules: RuleSet, op: u8, left: ConstVal, right: ConstVal) -> Verdict
     ensures { λ r. ⌜ r ≡ evaluate (rulesOf rules op) left right ⌝ }
-{
-    match op {
-        0x41 => fold_truth(rules, op, left, right),
-        0x42 => fold_truth(rules, op, left, right),
-        0x43 => fold_truth(rules, op, left, right),
-        0x44 => fold_truth(rules, op, left, right),
-        _ => fold_default(op, left, right),
-    }
-}
-
-// The truth-order quads, which only the fuller rules fold.
-fn fold_truth(rules: RuleSet, op: u8, left: ConstVal, right: ConstVal) -> Verdict
-    ensures { λ r. ⌜ r ≡ onlyFuller rules (evaluate (some (twoQuad (leafOf op quadLeaves))) left right) ⌝ }
-{
-    match rules {
-        RuleSet::Default => Verdict::NotComputed,
-        RuleSet::Fuller => fold_quad(op, left, right),
-    }
-}
-
-// The 31 commands that every rule set has, by their operands' kinds: an arm each, so that its call knows the command.
-fn fold_default(op: u8, left: ConstVal, right: ConstVal) -> Verdict
-    ensures { λ r. ⌜ r ≡ evaluate (defaultRules op) left right ⌝ }
 {
     match op {
         0x11 => fold_f64(op, left, right),
@@ -75,7 +53,21 @@ fn fold_default(op: u8, left: ConstVal, right: ConstVal) -> Verdict
         0x40 => fold_quad(op, left, right),
         0x19 => fold_equality(op, left, right),
         0x23 => fold_equality(op, left, right),
+        0x41 => fold_truth(rules, op, left, right),
+        0x42 => fold_truth(rules, op, left, right),
+        0x43 => fold_truth(rules, op, left, right),
+        0x44 => fold_truth(rules, op, left, right),
         _ => Verdict::NotComputed,
+    }
+}
+
+// The truth-order quads, which only the fuller rules fold.
+fn fold_truth(rules: RuleSet, op: u8, left: ConstVal, right: ConstVal) -> Verdict
+    ensures { λ r. ⌜ r ≡ onlyFuller rules (evaluate (some (twoQuad (leafOf op quadLeaves))) left right) ⌝ }
+{
+    match rules {
+        RuleSet::Default => Verdict::NotComputed,
+        RuleSet::Fuller => fold_quad(op, left, right),
     }
 }
 
