@@ -26,7 +26,7 @@
 #endif
 
 /* The version of this interface: it rises when a function is added or an answer changes. */
-#define MATCHDESK_VERSION 2
+#define MATCHDESK_VERSION 3
 
 /* The bytes of a cell. */
 #define MATCHDESK_CELL 16
@@ -111,7 +111,8 @@ size_t matchdesk_rewrite(const unsigned char *image, size_t image_length, unsign
 
 /*
  * The fuller rewrite: as the default one, except that CrystalFold also folds the truth-order quads QTruthAnd, QTruthOr, QTruthNot and QTruthImpl,
- * which matchdesk_crystalfold and matchdesk_rewrite leave as they are. It refuses as the default one.
+ * and DivF64 by 0.0 or -0.0 as IEEE 754 has it: a nonzero number by zero is an infinity with the product of the signs, zero or NaN by zero is
+ * NaN. matchdesk_crystalfold and matchdesk_rewrite leave these as they are. It refuses as the default one.
  */
 size_t matchdesk_rewrite_fuller(const unsigned char *image, size_t image_length, unsigned char *out, size_t out_length, size_t *first, size_t *second);
 
@@ -126,6 +127,7 @@ size_t matchdesk_rewrite_fuller(const unsigned char *image, size_t image_length,
  *   FTZ and DAZ set (start-    5e-324 + 0.0 folds to 0.0, not 5e-324; CmpEq of 5e-324 and 0.0 to true, not false
  *   up code of -ffast-math)
  *   FE_INVALID trapped         inf - inf raises SIGFPE
+ *   FE_DIVBYZERO trapped       1.0 / 0.0 raises SIGFPE, in the fuller rewrite, which folds it
  *
  * The fold also raises exception flags (FE_INEXACT and others) and leaves them raised. The other functions compute no floating-point number.
  *

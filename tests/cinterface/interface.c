@@ -154,12 +154,12 @@ static const struct rewritten {
      {"F0070002 0A0100 0C F0080003 2B010005 2B02000A 0C010200", 2}},
 };
 
-/* The truth-order quads (N 0, F 1, T 2, S 3), which the fuller rewrite folds and the others leave: the image, and what the fuller one writes. */
-static const struct truth {
+/* What the fuller rewrite folds and the others leave: the image, and what the fuller one writes. */
+static const struct fuller {
     const char *image;
     struct written fuller;
-} truth[] = {
-    /* N and S can't be compared: their and is F, their or is T; not F or N is T; not exchanges F and T */
+} fuller[] = {
+    /* the truth-order quads, N 0, F 1, T 2, S 3. N and S can't be compared: their and is F, their or is T; not F or N is T; not exchanges F and T */
     {"F0070003 2C0100 2C020003 41030001000200", {"F0070003 2C0100 2C020003 2C030001", 1}},
     {"F0070003 2C0100 2C020003 44030001000200", {"F0070003 2C0100 2C020003 2C030002", 1}},
     {"F0070003 2C010001 2C0200 42030001000200", {"F0070003 2C010001 2C0200 2C030002", 1}},
@@ -170,6 +170,18 @@ static const struct truth {
     {"F0070002 2C010001 41030001000200", UNCHANGED},
     {"F0070002 28010001 4303000100", UNCHANGED},
     {"F0070003 2C010001 0A0100 4303000100", UNCHANGED},
+    /* division by 0.0 and by -0.0: of 1.0, of -infinity, of the least subnormal; of 0.0 and of a NaN with a payload */
+    {"F0070005 290100000000000000F03F 290200 2903000000000000000080 25040001000200 25050001000300",
+     {"F0070005 290100000000000000F03F 290200 2903000000000000000080 290400000000000000F07F 290500000000000000F0FF", 2}},
+    {"F0070005 290100000000000000F0FF 290200 2903000000000000000080 25040001000200 25050001000300",
+     {"F0070005 290100000000000000F0FF 290200 2903000000000000000080 290400000000000000F0FF 290500000000000000F07F", 2}},
+    {"F0070005 29010001 290200 2903000000000000000080 25040001000200 25050001000300",
+     {"F0070005 29010001 290200 2903000000000000000080 290400000000000000F07F 290500000000000000F0FF", 2}},
+    {"F0070003 290100 25020001000100 0C010200", {"F0070003 290100 290200000000000000F87F 0C010200", 1}},
+    {"F0070003 290100230100000000F8FF 290200 25030001000200", {"F0070003 290100230100000000F8FF 290200 290300000000000000F87F", 1}},
+    /* the dividend unknown; a zero of another kind */
+    {"F0070002 290200 25030001000200", UNCHANGED},
+    {"F0070003 290100000000000000F03F 2B0200 25030001000200", UNCHANGED},
 };
 
 typedef size_t check(const unsigned char *, size_t, size_t *, size_t *);
@@ -298,15 +310,15 @@ int main(void)
         try_written("cleanup", matchdesk_cleanup, r->image, r->cleanup);
         try_written("crystalfold", matchdesk_crystalfold, r->image, r->crystalfold);
         try_written("rewrite", matchdesk_rewrite, r->image, r->rewrite);
-        /* none of these has a truth-order quad */
+        /* none of these has a truth-order quad or a division by a float zero */
         try_written("rewrite_fuller", matchdesk_rewrite_fuller, r->image, r->rewrite);
     }
-    for (size_t i = 0; i < sizeof truth / sizeof *truth; i++) {
+    for (size_t i = 0; i < sizeof fuller / sizeof *fuller; i++) {
         struct written unchanged = UNCHANGED;
-        try_written("cleanup", matchdesk_cleanup, truth[i].image, unchanged);
-        try_written("crystalfold", matchdesk_crystalfold, truth[i].image, unchanged);
-        try_written("rewrite", matchdesk_rewrite, truth[i].image, unchanged);
-        try_written("rewrite_fuller", matchdesk_rewrite_fuller, truth[i].image, truth[i].fuller);
+        try_written("cleanup", matchdesk_cleanup, fuller[i].image, unchanged);
+        try_written("crystalfold", matchdesk_crystalfold, fuller[i].image, unchanged);
+        try_written("rewrite", matchdesk_rewrite, fuller[i].image, unchanged);
+        try_written("rewrite_fuller", matchdesk_rewrite_fuller, fuller[i].image, fuller[i].fuller);
     }
     printf("interface: %u calls, %u wrong\n", calls, wrong);
     return wrong != 0;

@@ -92,10 +92,16 @@ def multiply(a, b):
 
 
 def divide(a, b):
-    """None for a divisor of either zero, which has no result (document 01, module 1)."""
+    """The Rust's division: none for a divisor of either zero (document 01, module 1)."""
+    return None if is_zero(b) else ieee_divide(a, b)
+
+
+def ieee_divide(a, b):
+    """IEEE 754's, by document 02's words (W4) for a divisor of either zero."""
     sign = (a ^ b) & SIGN
     if is_zero(b):
-        return None
+        # "a nonzero number by zero is an infinity with the product of the signs, and zero or NaN by zero is NaN"
+        return NAN if is_zero(a) or is_nan(a) else sign + INFINITY
     if is_nan(a) or is_nan(b):
         return NAN
     if is_infinite(a):
@@ -145,6 +151,20 @@ PUBLISHED = [
     ("mul", multiply, 0x8000000000000000, 0x3FF0000000000000, 0x8000000000000000),
     # 4195835 / 3145727 is 1.333820449136241, which a flawed Pentium gave as 1.33373 (T. Nicely, 1994)
     ("div", divide, 0x4150017EC0000000, 0x4147FFFF80000000, 0x3FF557541C7C6B43),
+]
+
+# Quotients by zero, written out from document 02 (W4): 1.0, -1.0, infinity, the least subnormal, zeros and a NaN.
+BY_ZERO = [
+    (0x3FF0000000000000, 0, INFINITY),
+    (0xBFF0000000000000, 0, SIGN + INFINITY),
+    (0x3FF0000000000000, SIGN, SIGN + INFINITY),
+    (0xBFF0000000000000, SIGN, INFINITY),
+    (INFINITY, 0, INFINITY),
+    (INFINITY, SIGN, SIGN + INFINITY),
+    (1, SIGN, SIGN + INFINITY),
+    (0, 0, NAN),
+    (SIGN, 0, NAN),
+    (0xFFF8000000000123, SIGN, NAN),
 ]
 
 EDGES = [
@@ -411,9 +431,15 @@ def main():
         group("f64", leaf, "f64 %s, published" % name, rows)
     for leaf, (name, operation) in enumerate(operations, 1):
         group("f64", leaf, "f64 " + name, floats(rng, name, operation, 105))
-    rows = [(a, b, 0, 0) for a in (0, SIGN, 1, 0x3FF0000000000000, INFINITY, 0x7FF8DEADBEEF0001) for b in (0, SIGN)]
-    assert all(divide(a, b) is None for a, b, _, _ in rows)
-    group("f64", 4, "f64 div by zero", rows)
+    # The two divisions agree but by zero.
+    quotients = [row for _, name, rows in groups if name.startswith("f64 div") for row in rows]
+    assert all(ieee_divide(a, b) == result for a, b, _, result in quotients)
+    group("f64", 5, "f64 IEEE div", quotients)
+    for a, b, quotient in BY_ZERO:
+        assert ieee_divide(a, b) == quotient
+    by_zero = [(a, b) for a in EDGES for b in (0, SIGN)]
+    group("f64", 4, "f64 div by zero", [(a, b, 0, 0) for a, b in by_zero])
+    group("f64", 5, "f64 IEEE div by zero", [(a, b, 1, ieee_divide(a, b)) for a, b in by_zero])
     group("f64", 0, "f64 bits", [(a, 0, 1, NAN if is_nan(a) else a) for a in EDGES])
 
     for label, kind, edges, low, high in (

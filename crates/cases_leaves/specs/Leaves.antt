@@ -10,7 +10,7 @@ use lib.ListN.{getD}
 use lib.Signed.{ltZ, leZ}
 use mir.Syntax.{w32}
 use mir.Val.{ofZ, toZ}
-use Rattle.leaves.specs.Float.{floatOf, bitsOf, addF64, subF64, mulF64, divF64}
+use Rattle.leaves.specs.Float.{floatOf, bitsOf, addF64, subF64, mulF64, divF64, ieeeDivF64}
 use Rattle.leaves.specs.Signed.{addI32, subI32, mulI32, divI32, modI32}
 use Rattle.leaves.specs.Unsigned.{addU32, subU32, mulU32, divU32, modU32}
 use Rattle.leaves.specs.Fixed.{addFx, subFx, mulFx, divFx}
@@ -86,9 +86,9 @@ ofBool b = cond b (Value 1) (Value 0)
 unfoldable pub pick : List Answer → ℕ → Answer
 pick l n = getD l n NoLeaf
 
--- 0 reads a value and writes it back
+-- 0 reads a value and writes it back; 4 is the Rust's division, 5 IEEE 754's
 abbrev pub f64Leaf : ℕ → Float → Float → Answer
-f64Leaf n a b = pick (Value (bitsOf a) ∷ ofVerdict f64Bits (addF64 a b) ∷ ofVerdict f64Bits (subF64 a b) ∷ ofVerdict f64Bits (mulF64 a b) ∷ ofVerdict f64Bits (divF64 a b) ∷ []) n
+f64Leaf n a b = pick (Value (bitsOf a) ∷ ofVerdict f64Bits (addF64 a b) ∷ ofVerdict f64Bits (subF64 a b) ∷ ofVerdict f64Bits (mulF64 a b) ∷ ofVerdict f64Bits (divF64 a b) ∷ ofVerdict f64Bits (ieeeDivF64 a b) ∷ []) n
 
 abbrev pub i32Leaf : ℕ → ℤ → ℤ → Answer
 i32Leaf n a b = pick (NoLeaf ∷ ofVerdict i32Bits (addI32 a b) ∷ ofVerdict i32Bits (subI32 a b) ∷ ofVerdict i32Bits (mulI32 a b) ∷ ofVerdict i32Bits (divI32 a b) ∷ ofVerdict i32Bits (modI32 a b) ∷ ofBool (ltZ a b) ∷ ofBool (leZ a b) ∷ []) n

@@ -42,7 +42,7 @@ pub fn compute(leaf: u64, a: u64, b: u64) -> Answer
     }
 }
 
-// 0 reads a value and writes it back.
+// 0 reads a value and writes it back; 4 is the Rust's division, 5 IEEE 754's.
 fn f64_leaf(leaf: u64, a: f64, b: f64) -> Answer
     ensures { λ r. ⌜ r ≡ f64Leaf leaf a b ⌝ }
 {
@@ -52,6 +52,7 @@ fn f64_leaf(leaf: u64, a: f64, b: f64) -> Answer
         2 => of_f64(float::sub_f64(a, b)),
         3 => of_f64(float::mul_f64(a, b)),
         4 => of_f64(float::div_f64(a, b)),
+        5 => of_f64(float::ieee_div_f64(a, b)),
         _ => Answer::NoLeaf,
     }
 }

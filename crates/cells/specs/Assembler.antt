@@ -63,6 +63,12 @@ CmpEq = binary 0x19
 abbrev pub CmpNe : ℕ → ℕ → ℕ → Cell
 CmpNe = binary 0x23
 
+abbrev pub DivF64 : ℕ → ℕ → ℕ → Cell
+DivF64 = binary 0x25
+
+abbrev pub SubF64 : ℕ → ℕ → ℕ → Cell
+SubF64 = binary 0x4E
+
 abbrev pub QAnd : ℕ → ℕ → ℕ → Cell
 QAnd = binary 0x3D
 

@@ -12,7 +12,7 @@ use Rattle.leaves.specs.declared.constant.ConstVal.the-variants.{Quad as QuadV,
 use Rattle.leaves.specs.declared.verdict.Verdict.{Verdict}
 use Rattle.leaves.specs.declared.verdict.Verdict.the-variants.{Value, NotComputed}
 use Rattle.leaves.specs.Constants.{constEq}
-use Rattle.leaves.specs.Float.{addF64, subF64, mulF64, divF64}
+use Rattle.leaves.specs.Float.{addF64, subF64, mulF64, divF64, ieeeDivF64}
 use Rattle.leaves.specs.Signed.{addI32, subI32, mulI32, divI32, modI32}
 use Rattle.leaves.specs.Unsigned.{addU32, subU32, mulU32, divU32, modU32}
 use Rattle.leaves.specs.Fixed.{addFx, subFx, mulFx, divFx}
@@ -45,8 +45,13 @@ Leaves A = List (Choice (A → A → Verdict))
 abbrev pub leafOf : {A : Type 0} → ℕ → Leaves A → A → A → Verdict
 leafOf {A} o cs = chosen (λ (a b : A). NotComputed) o cs
 
-abbrev pub f64Leaves : Leaves Float
-f64Leaves = choice 0x11 addF64 ∷ choice 0x25 divF64 ∷ choice 0x3A mulF64 ∷ choice 0x4E subF64 ∷ []
+-- the division of a rule set
+abbrev pub divisionOf : RuleSet → Float → Float → Verdict
+divisionOf Default = divF64
+divisionOf Fuller = ieeeDivF64
+
+abbrev pub f64Leaves : RuleSet → Leaves Float
+f64Leaves s = choice 0x11 addF64 ∷ choice 0x25 (divisionOf s) ∷ choice 0x3A mulF64 ∷ choice 0x4E subF64 ∷ []
 
 abbrev pub fxLeaves : Leaves ℤ
 fxLeaves = choice 0x12 addFx ∷ choice 0x26 divFx ∷ choice 0x3B mulFx ∷ choice 0x4F subFx ∷ []

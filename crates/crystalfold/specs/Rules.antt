@@ -10,7 +10,7 @@ use lib.Signed.{ltZ, leZ}
 use Rattle.leaves.specs.declared.quad.Quad.{Quad}
 use Rattle.leaves.specs.declared.constant.ConstVal.{ConstVal}
 use Rattle.leaves.specs.declared.constant.ConstVal.the-variants.{Unknown}
-use Rattle.leaves.specs.Float.{addF64, subF64, mulF64, divF64}
+use Rattle.leaves.specs.Float.{addF64, subF64, mulF64, divF64, ieeeDivF64}
 use Rattle.leaves.specs.Signed.{addI32, subI32, mulI32, divI32, modI32}
 use Rattle.leaves.specs.Unsigned.{addU32, subU32, mulU32, divU32, modU32}
 use Rattle.leaves.specs.Fixed.{addFx, subFx, mulFx, divFx}
@@ -86,7 +86,8 @@ defaultTable =
 unfoldable pub defaultRules : Rules
 defaultRules o = lookUp o defaultTable
 
--- the fuller rules (document 02, W2): "the Rust's rules plus these four"
+-- the fuller rules (document 02): "the Rust's rules plus these four" (W2); and DivF64 by zero, "The fuller rewrite folds these divisions and the
+-- default one still leaves them" (W4), in a row that comes before the default table's
 unfoldable pub fullerTable : List Means
 fullerTable =
     -- "They follow Belnap's logical order"; "And is the greatest lower bound, or the least upper bound, not exchanges F and T, impl is or of not-left
@@ -95,6 +96,8 @@ fullerTable =
     means 0x42 (quads qTruthImpl) ∷  -- QTruthImpl
     means 0x43 (quads (λ (a b : Quad). qTruthNot a)) ∷  -- QTruthNot
     means 0x44 (quads qTruthOr) ∷  -- QTruthOr
+    -- "a nonzero number by zero is an infinity with the product of the signs, and zero or NaN by zero is NaN"
+    means 0x25 (twoF64 ieeeDivF64) ∷  -- DivF64
     defaultTable
 
 unfoldable pub fullerRules : Rules

@@ -4,7 +4,7 @@ ghost use mathlib.Core.Option.{some};
 ghost use Rattle.leaves.specs.Verdicts.{ifKnown};
 ghost use Rattle.machine.specs.Evaluate.{twoF64, twoFx, twoI32, twoU32, twoBool, twoQuad, evaluate};
 ghost use Rattle.crystalfold.specs.Rules.{rulesOf};
-ghost use Rattle.crystalfold.specs.Arms.{onlyFuller, leafOf, f64Leaves, fxLeaves, i32Leaves, u32Leaves, boolLeaves, quadLeaves, equalityLeaves};
+ghost use Rattle.crystalfold.specs.Arms.{onlyFuller, leafOf, divisionOf, f64Leaves, fxLeaves, i32Leaves, u32Leaves, boolLeaves, quadLeaves, equalityLeaves};
 use crate::rules::RuleSet;
 use leaves::compare;
 use leaves::constant;
@@ -22,10 +22,10 @@ pub fn fold_value(rules: RuleSet, op: u8, left: ConstVal, right: ConstVal) -> Ve
     ensures { λ r. ⌜ r ≡ evaluate (rulesOf rules op) left right ⌝ }
 {
     match op {
-        0x11 => fold_f64(op, left, right),
-        0x25 => fold_f64(op, left, right),
-        0x3A => fold_f64(op, left, right),
-        0x4E => fold_f64(op, left, right),
+        0x11 => fold_f64(rules, op, left, right),
+        0x25 => fold_f64(rules, op, left, right),
+        0x3A => fold_f64(rules, op, left, right),
+        0x4E => fold_f64(rules, op, left, right),
         0x12 => fold_fx(op, left, right),
         0x26 => fold_fx(op, left, right),
         0x3B => fold_fx(op, left, right),
@@ -72,8 +72,8 @@ fn fold_truth(rules: RuleSet, op: u8, left: ConstVal, right: ConstVal) -> Verdic
 }
 
 // AddF64, DivF64, MulF64, SubF64
-fn fold_f64(op: u8, left: ConstVal, right: ConstVal) -> Verdict
-    ensures { λ r. ⌜ r ≡ evaluate (some (twoF64 (leafOf op f64Leaves))) left right ⌝ }
+fn fold_f64(rules: RuleSet, op: u8, left: ConstVal, right: ConstVal) -> Verdict
+    ensures { λ r. ⌜ r ≡ evaluate (some (twoF64 (leafOf op (f64Leaves rules)))) left right ⌝ }
 {
     let ConstVal::F64(a) = left else {
         return verdict::declined(left, right);
@@ -83,10 +83,20 @@ fn fold_f64(op: u8, left: ConstVal, right: ConstVal) -> Verdict
     };
     match op {
         0x11 => float::add_f64(a, b),
-        0x25 => float::div_f64(a, b),
+        0x25 => divide_f64(rules, a, b),
         0x3A => float::mul_f64(a, b),
         0x4E => float::sub_f64(a, b),
         _ => Verdict::NotComputed,
+    }
+}
+
+// DivF64: by zero only the fuller rules fold it.
+fn divide_f64(rules: RuleSet, a: f64, b: f64) -> Verdict
+    ensures { λ r. ⌜ r ≡ divisionOf rules a b ⌝ }
+{
+    match rules {
+        RuleSet::Default => float::div_f64(a, b),
+        RuleSet::Fuller => float::ieee_div_f64(a, b),
     }
 }
 

@@ -1,6 +1,6 @@
 // The rule sets of the fold.
 
-// Default: the Rust's. Fuller: these and the truth-order quads.
+// Default: the Rust's. Fuller: these, the truth-order quads, and division of an f64 by zero.
 pub enum RuleSet {
     Default,
     Fuller,

@@ -1,9 +1,9 @@
 -- Laws that show the definitions of specs/ to be the right ones.
 use mathlib.Core.Path.{_≡_, refl, sym, _∙_, ap, subst}
 use mathlib.Core.Logic.{⊎-elim}
-use mathlib.Core.Bool.{true, false, not}
+use mathlib.Core.Bool.{Bool, true, false, not, cond}
 use Prim.Native.Nat.{ℕ, zero, suc, _+_, _-_, _*_, _/_, _%_, _^_, _≤_, _<_}
-use native.Mathlib.Nat.{div-add-mod', mod-lt}
+use native.Mathlib.Nat.{div-add-mod', mod-lt, mul-pos, zero-lt-suc}
 use native.Mathlib.Omega.{arith}
 use lib.IntN.{ℤ, pos, negsuc, negℤ, natAbs, _+ℤ_, _-ℤ_, _*ℤ_}
 use lib.Signed.{leZ, ltZ, quotZ, remZ}
@@ -11,18 +11,20 @@ use lib.Dec as Dec
 use lib.Dec.{ltb, leb, eqb}
 use lib.Ieee
 use lib.Ieee as Ieee
-use lib.Ieee.{Float, nan, binary64}
+use lib.Ieee.{Float, nan, inf, fin, binary64, unlike, up, down}
+use lib.Ieee.Fits.{up-pos}
 use borrow.Author.Tests.{ltb-true, leb-true, eqb-true, eqb-false, lt-ltb, le-ltb, le-leb, lt-leb, eq-eqb, ne-eqb}
 use mir.Syntax.{w32}
 use mir.Val.{SFits, ofZ, toZ}
 use mir.Facts.{toZ-ofZ, ofZ-toZ, sfits-toZ}
-use Rattle.leaves.specs.declared.constant.ConstVal.the-variants.{I32, U32, Fx}
+use Rattle.leaves.specs.declared.constant.ConstVal.{ConstVal}
+use Rattle.leaves.specs.declared.constant.ConstVal.the-variants.{F64, I32, U32, Fx}
 use Rattle.leaves.specs.declared.verdict.Verdict.{Verdict}
 use Rattle.leaves.specs.declared.verdict.Verdict.the-variants.{Value, NoResult}
 use Rattle.leaves.specs.Signed.{residue, wrap, inI32, isZero, sameZ, checkedAs, divI32, modI32}
 use Rattle.leaves.specs.Unsigned.{addU32, subU32, mulU32, divU32, modU32}
 use Rattle.leaves.specs.Fixed.{fxScale, addFx, subFx, mulFx, divFx}
-use Rattle.leaves.specs.Float.{floatOf, bitsOf}
+use Rattle.leaves.specs.Float.{floatOf, bitsOf, zeroFloat, ieeeDivF64, divF64, nonzero, negative, byZero}
 use Rattle.leaves.proofs.Integers.{less-or-not, sub-pos, sub-neg}
 use Rattle.leaves.proofs.Division as Division
 use Rattle.leaves.proofs.Division.{in-range-but-one}
@@ -233,3 +235,67 @@ unfolding floatOf bitsOf Ieee.toBits
 written-nan x h l =
     let e : x ≡ nan = sym (back x h) ∙ above (bitsOf x) l in
     ap bitsOf e
+
+-- ---- f64: division by zero. IEEE 754's is document 02's words (W4), whatever the dividend
+
+-- a finite number that is equal to zero is a zero
+no-digits : (s : Bool) (m : ℕ) (e : ℤ) → Ieee.eq (fin s m e) zeroFloat ≡ true → eqb m 0 ≡ true
+unfolding Ieee.eq
+no-digits s zero e t = refl
+no-digits s (suc m) e t =
+    let p : 0 < suc m * up e = mul-pos (zero-lt-suc m) (up-pos e) in
+    let n : eqb (suc m * up e * 1) (0 * down e) ≡ false = ne-eqb (suc m * up e * 1) (0 * down e) (λ (z : suc m * up e * 1 ≡ 0 * down e). omega arith) in
+    absurd (subst Dec.T (sym (rw n at t)) tt)
+
+pub divided-by-zero : (x z : Float) → Ieee.eq z zeroFloat ≡ true → Ieee.div binary64 x z ≡ byZero x z
+unfolding Ieee.div Ieee.eq
+divided-by-zero x nan t = absurd (subst Dec.T (sym t) tt)
+divided-by-zero x (inf s) t = absurd (subst Dec.T (sym t) tt)
+divided-by-zero nan (fin s m e) t = refl
+divided-by-zero (inf r) (fin s m e) t = refl
+divided-by-zero (fin r n d) (fin s m e) t = rw (no-digits s m e t) (flipped (eqb n 0))
+  where
+    flipped : (b : Bool) → cond b nan (inf (unlike r s)) ≡ cond (not b) (inf (unlike r s)) nan
+    flipped true = refl
+    flipped false = refl
+
+-- sign by sign: of like signs infinity, of unlike ones -infinity; of zero or NaN, NaN
+pub record BySigns (x z : Float) : Type 0 where
+  pub like : nonzero x ≡ true → negative x ≡ negative z → ieeeDivF64 x z ≡ Value (F64 (inf false))
+  pub not-like : nonzero x ≡ true → negative x ≡ not (negative z) → ieeeDivF64 x z ≡ Value (F64 (inf true))
+  pub no-number : nonzero x ≡ false → ieeeDivF64 x z ≡ Value (F64 nan)
+
+pub by-signs : (x z : Float) → Ieee.eq z zeroFloat ≡ true → BySigns x z
+by-signs x z t = record {
+  like = λ n s. comes (rw (n, s) (ap inf (alike (negative z))));
+  not-like = λ n s. comes (rw (n, s) (ap inf (opposed (negative z))));
+  no-number = λ n. comes (rw n);
+}
+  where
+    comes : {q : Float} → byZero x z ≡ q → ieeeDivF64 x z ≡ Value (F64 q)
+    comes e = ap (λ (y : Float). Value (F64 y)) (divided-by-zero x z t ∙ e)
+
+    alike : (s : Bool) → unlike s s ≡ false
+    alike true = refl
+    alike false = refl
+
+    opposed : (s : Bool) → unlike (not s) s ≡ true
+    opposed true = refl
+    opposed false = refl
+
+-- the Rust's division declines a zero, and by any other divisor gives what IEEE 754's does; so whatever value it has is IEEE 754's
+pub declined-zero : (a b : Float) → Ieee.eq b zeroFloat ≡ true → divF64 a b ≡ NoResult
+unfolding divF64
+declined-zero a b t = rw t
+
+pub divided-f64 : (a b : Float) → Ieee.eq b zeroFloat ≡ false → divF64 a b ≡ ieeeDivF64 a b
+unfolding divF64
+divided-f64 a b t = rw t
+
+pub same-quotient : (a b : Float) (v : ConstVal) → divF64 a b ≡ Value v → ieeeDivF64 a b ≡ Value v
+unfolding divF64
+same-quotient a b v = go (Ieee.eq b zeroFloat)
+  where
+    go : (t : Bool) → cond t NoResult (ieeeDivF64 a b) ≡ Value v → ieeeDivF64 a b ≡ Value v
+    go true e = cc
+    go false e = e

@@ -19,7 +19,7 @@ use Rattle.leaves.specs.declared.verdict.Verdict.the-variants.{Value, Le
 use Rattle.leaves.specs.Signed.{inI32, isZero, checkedAs, addI32, subI32, mulI32, divI32, modI32}
 use Rattle.leaves.specs.Unsigned.{checkedU32, addU32, subU32, mulU32, divU32, modU32}
 use Rattle.leaves.specs.Fixed.{fxScale, addFx, subFx, mulFx, divFx}
-use Rattle.leaves.specs.Float.{zeroFloat, divF64}
+use Rattle.leaves.specs.Float.{zeroFloat, ieeeDivF64, divF64}
 use Rattle.leaves.proofs.Ranges.{sfits-in, rest-fits}
 use Rattle.leaves.proofs.Laws.{wrap-fits}
 
@@ -118,6 +118,9 @@ mod-u32-fits a b h = none-or (eqb b 0) (Value (U32 (a % b))) (lt-of-le-of-lt (mo
 
 -- ---- f64: a sum, a difference and a product fit by lib.Ieee.Fits
 
+pub ieee-div-f64-fits : (a b : Float) → TypedResult (ieeeDivF64 a b)
+ieee-div-f64-fits a b = div-fits binary64 a b
+
 pub div-f64-fits : (a b : Float) → TypedResult (divF64 a b)
 unfolding divF64
-div-f64-fits a b = none-or (Ieee.eq b zeroFloat) (Value (F64 (Ieee.div binary64 a b))) (div-fits binary64 a b)
+div-f64-fits a b = none-or (Ieee.eq b zeroFloat) (ieeeDivF64 a b) (ieee-div-f64-fits a b)

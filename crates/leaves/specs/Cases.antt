@@ -1,14 +1,17 @@
 -- Worked: document 01's starred cases that belong to leaves ('Cells on either edge'), each a command at two known operands and its verdict there; the
--- two orders of the quads, each quad with what stands above it; and document 02's truth-order commands (W2), each at a left operand with its results
--- for every right one. A table each, and one theorem of all its rows.
+-- two orders of the quads, each quad with what stands above it; document 02's truth-order commands (W2), each at a left operand with its results
+-- for every right one; and its divisions of an f64 by zero (W4), each dividend with its quotients by both zeros. A table each, and one theorem of
+-- all its rows.
 --
 use Prim.Native.Nat.{ℕ}
 use mathlib.Core.Path.{_≡_, refl}
 use mathlib.Core.Bool.{Bool, true, false}
+use mathlib.Core.Option.{Option, none, some}
 use mathlib.Core.List.{List, [], _∷_, _++_, map}
 use lib.IntN.{ℤ, pos, negsuc}
 use lib.Ieee
 use lib.Ieee as Ieee
+use lib.Ieee.{Float}
 use Rattle.leaves.specs.declared.quad.Quad.{Quad}
 use Rattle.leaves.specs.declared.quad.Quad.the-variants.{N, F, T, S}
 use Rattle.leaves.specs.declared.constant.ConstVal.{ConstVal}
@@ -18,9 +21,10 @@ use Rattle.leaves.specs.declared.verdict.Verdict.the-variants.{Value, Un
 use Rattle.leaves.specs.Signed.{wrap, addI32, divI32, modI32}
 use Rattle.leaves.specs.Unsigned.{subU32}
 use Rattle.leaves.specs.Fixed.{mulFx}
-use Rattle.leaves.specs.Float.{floatOf}
+use Rattle.leaves.specs.Float.{floatOf, bitsOf, ieeeDivF64, divF64, byZero}
 use Rattle.leaves.specs.Quads.{Order, meet, join, approxBelow, truthBelow, qAnd, qOr, qImpl, qTruthAnd, qTruthOr, qTruthNot, qTruthImpl}
-use Rattle.leaves.specs.Constants.{onQuad, onI32, onU32, onFx, constEq}
+use Rattle.leaves.specs.Verdicts.{valueIn}
+use Rattle.leaves.specs.Constants.{onQuad, onF64, onI32, onU32, onFx, constEq}
 
 -- ---- a leaf as a command on two known values
 
@@ -145,3 +149,53 @@ quadRows =
 pub quad-rows-hold : map (λ (r : QuadRow). map (r .command (r .left)) (N ∷ F ∷ T ∷ S ∷ [])) quadRows ≡ map (λ (r : QuadRow). r .results) quadRows
 unfolding meet join
 quad-rows-hold = refl
+
+-- ---- division of an f64 by zero
+
+pub record ByZeros : Type 0 where
+  pub dividend : ℕ
+  pub byPlus : ℕ
+  pub byMinus : ℕ
+
+-- a dividend and its quotients by 0.0 and by -0.0, in bits
+abbrev pub over : ℕ → ℕ → ℕ → ByZeros
+over x p m = record { dividend = x; byPlus = p; byMinus = m }
+
+-- 7FF0000000000000 is infinity, FFF0000000000000 -infinity
+abbrev pub byZeros : List ByZeros
+byZeros =
+    -- "a nonzero number by zero is an infinity with the product of the signs": 1.0 and -1.0
+    over 0x3FF0_0000_0000_0000 0x7FF0_0000_0000_0000 0xFFF0_0000_0000_0000
+    ∷ over 0xBFF0_0000_0000_0000 0xFFF0_0000_0000_0000 0x7FF0_0000_0000_0000
+    -- the least subnormal number and its negative; the greatest
+    ∷ over 0x0000_0000_0000_0001 0x7FF0_0000_0000_0000 0xFFF0_0000_0000_0000
+    ∷ over 0x8000_0000_0000_0001 0xFFF0_0000_0000_0000 0x7FF0_0000_0000_0000
+    ∷ over 0x000F_FFFF_FFFF_FFFF 0x7FF0_0000_0000_0000 0xFFF0_0000_0000_0000
+    -- the greatest finite number and its negative
+    ∷ over 0x7FEF_FFFF_FFFF_FFFF 0x7FF0_0000_0000_0000 0xFFF0_0000_0000_0000
+    ∷ over 0xFFEF_FFFF_FFFF_FFFF 0xFFF0_0000_0000_0000 0x7FF0_0000_0000_0000
+    -- the infinities
+    ∷ over 0x7FF0_0000_0000_0000 0x7FF0_0000_0000_0000 0xFFF0_0000_0000_0000
+    ∷ over 0xFFF0_0000_0000_0000 0xFFF0_0000_0000_0000 0x7FF0_0000_0000_0000
+    -- "zero or NaN by zero is NaN", "with the same NaN bits as other operations": 0.0 and -0.0; NaN's of either sign, quiet and signalling
+    ∷ over 0x0000_0000_0000_0000 0x7FF8_0000_0000_0000 0x7FF8_0000_0000_0000
+    ∷ over 0x8000_0000_0000_0000 0x7FF8_0000_0000_0000 0x7FF8_0000_0000_0000
+    ∷ over 0x7FF8_0000_0000_0000 0x7FF8_0000_0000_0000 0x7FF8_0000_0000_0000
+    ∷ over 0xFFF8_0000_0000_0123 0x7FF8_0000_0000_0000 0x7FF8_0000_0000_0000
+    ∷ over 0x7FF0_0000_0000_0001 0x7FF8_0000_0000_0000 0x7FF8_0000_0000_0000
+    ∷ []
+
+-- a division's quotients of a dividend by 0.0 and by -0.0, as they are written, if there are any
+abbrev pub overZeros : (Float → Float → Verdict) → ByZeros → List (Option ℕ)
+overZeros f r = written (f (floatOf (r .dividend)) (floatOf 0)) ∷ written (f (floatOf (r .dividend)) (floatOf 0x8000_0000_0000_0000)) ∷ []
+  where
+    written : Verdict → Option ℕ
+    written v = onF64 (valueIn v) (λ (x : Float). some (bitsOf x)) none
+
+-- IEEE 754's division, and document 02's words; the Rust's, which has none
+pub by-zeros-hold :
+    (map (overZeros ieeeDivF64) byZeros ≡ map (λ (r : ByZeros). some (r .byPlus) ∷ some (r .byMinus) ∷ []) byZeros)
+    × (map (overZeros (λ (x z : Float). Value (F64 (byZero x z)))) byZeros ≡ map (λ (r : ByZeros). some (r .byPlus) ∷ some (r .byMinus) ∷ []) byZeros)
+    × (map (overZeros divF64) byZeros ≡ map (λ (r : ByZeros). none ∷ none ∷ []) byZeros)
+unfolding floatOf bitsOf divF64 Ieee.eq Ieee.div Ieee.ofBits Ieee.toBits
+by-zeros-hold = (refl, refl, refl)

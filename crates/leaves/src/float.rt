@@ -1,6 +1,6 @@
 // f64 leaves. A value is the logic's `Float`: every NaN pattern is the one `nan`.
 ghost use mathlib.Core.Path.{_≡_};
-ghost use Rattle.leaves.specs.Float.{floatOf, bitsOf, addF64, subF64, mulF64, divF64};
+ghost use Rattle.leaves.specs.Float.{floatOf, bitsOf, addF64, subF64, mulF64, ieeeDivF64, divF64};
 use crate::constant::ConstVal;
 use crate::verdict::Verdict;
 
@@ -50,12 +50,19 @@ pub fn mul_f64(a: f64, b: f64) -> Verdict
     Verdict::Value(ConstVal::F64(a * b))
 }
 
-// Division by either zero has no result.
+// IEEE 754's division, by either zero too.
+pub fn ieee_div_f64(a: f64, b: f64) -> Verdict
+    ensures { λ r. ⌜ r ≡ ieeeDivF64 a b ⌝ }
+{
+    Verdict::Value(ConstVal::F64(a / b))
+}
+
+// The Rust's: division by either zero has no result.
 pub fn div_f64(a: f64, b: f64) -> Verdict
     ensures { λ r. ⌜ r ≡ divF64 a b ⌝ }
 {
     if b == 0.0 {
         return Verdict::NoResult;
     }
-    Verdict::Value(ConstVal::F64(a / b))
+    ieee_div_f64(a, b)
 }

@@ -1,6 +1,7 @@
 -- Promise: what the computed commands come to when a function runs (document 01, modules 1 and 2 and 'How a function runs'): "the Bool, comparison,
 -- arithmetic and quad commands of modules 1 and 2 are computed", each through its leaf's definition (leaves/specs). And document 02, W2: "When a
--- function runs, these four become computed commands", the truth-order quads.
+-- function runs, these four become computed commands", the truth-order quads; and W4: "The interpreter makers now follow IEEE 754", so that DivF64
+-- by either zero, which ended a run in document 01, has a result.
 use mathlib.Core.Bool.{Bool, _&&_, _||_, not}
 use mathlib.Core.Option.{Option, none, some}
 use mathlib.Core.List.{List, [], _∷_}
@@ -10,7 +11,7 @@ use lib.Signed.{ltZ, leZ}
 use Rattle.leaves.specs.declared.quad.Quad.{Quad}
 use Rattle.leaves.specs.declared.verdict.Verdict.{Verdict}
 use Rattle.leaves.specs.declared.verdict.Verdict.the-variants.{Value, LeftUnknown, RightUnknown, Unfit, NoResult, NotComputed}
-use Rattle.leaves.specs.Float.{addF64, subF64, mulF64, divF64}
+use Rattle.leaves.specs.Float.{addF64, subF64, mulF64, ieeeDivF64}
 use Rattle.leaves.specs.Signed.{addI32, subI32, mulI32, divI32, modI32}
 use Rattle.leaves.specs.Unsigned.{addU32, subU32, mulU32, divU32, modU32}
 use Rattle.leaves.specs.Fixed.{addFx, subFx, mulFx, divFx}
@@ -39,7 +40,7 @@ meanings =
     means 0x21 (twoU32 divU32) ∷  -- DivU32
     means 0x22 (twoU32 modU32) ∷  -- ModU32
     means 0x23 (equality not) ∷  -- CmpNe
-    means 0x25 (twoF64 divF64) ∷  -- DivF64
+    means 0x25 (twoF64 ieeeDivF64) ∷  -- DivF64
     means 0x26 (twoFx divFx) ∷  -- DivFx
     means 0x27 (twoI32 divI32) ∷  -- DivI32
     means 0x39 (twoI32 modI32) ∷  -- ModI32

@@ -1,5 +1,5 @@
--- Worked: runs: short functions whose records are written out by hand from document 01, 'How a function runs', and document 02, W2. One table, and
--- one theorem of all its rows: every cause of an end, every kind of move, and each of the 81 commands.
+-- Worked: runs: short functions whose records are written out by hand from document 01, 'How a function runs', and document 02, W2 and W4. One
+-- table, and one theorem of all its rows: every cause of an end, every kind of move, and each of the 81 commands.
 use mathlib.Core.Path.{_≡_, refl}
 use mathlib.Core.Bool.{true, false, cond}
 use mathlib.Core.Option.{none, some}
@@ -12,7 +12,7 @@ use Rattle.leaves.specs.declared.quad.Quad.the-variants.{N, F, T, S}
 use Rattle.leaves.specs.Signed.{wrap, addI32, subI32, mulI32, divI32, modI32}
 use Rattle.leaves.specs.Unsigned.{addU32, subU32, mulU32, divU32, modU32}
 use Rattle.leaves.specs.Fixed.{addFx, subFx, mulFx, divFx}
-use Rattle.leaves.specs.Float.{floatOf, bitsOf, divF64}
+use Rattle.leaves.specs.Float.{floatOf, bitsOf}
 use Rattle.leaves.specs.Quads.{meet, join, quadOf}
 use Rattle.leaves.specs.Constants.{constEq}
 use Rattle.cells.specs.Cells.{Cell}
@@ -264,9 +264,26 @@ runs =
     -- a computed NaN has the bits 7FF8000000000000; division by NaN has a result
     ∷ computes 0x11 (f64 0x7FF0000000000001) (f64 0) (f64 0x7FF8000000000000)  -- AddF64
     ∷ computes 0x25 (f64 0) (f64 0xFFF8000000000001) (f64 0x7FF8000000000000)  -- DivF64
+    -- DivF64 by zero: an infinity with the product of the signs. 1.0 and -1.0 by 0.0 and by -0.0
+    ∷ computes 0x25 (f64 0x3FF0000000000000) (f64 0) (f64 0x7FF0000000000000)
+    ∷ computes 0x25 (f64 0xBFF0000000000000) (f64 0) (f64 0xFFF0000000000000)
+    ∷ computes 0x25 (f64 0x3FF0000000000000) (f64 0x8000000000000000) (f64 0xFFF0000000000000)
+    ∷ computes 0x25 (f64 0xBFF0000000000000) (f64 0x8000000000000000) (f64 0x7FF0000000000000)
+    -- infinities, and the least subnormal number
+    ∷ computes 0x25 (f64 0x7FF0000000000000) (f64 0) (f64 0x7FF0000000000000)
+    ∷ computes 0x25 (f64 0xFFF0000000000000) (f64 0) (f64 0xFFF0000000000000)
+    ∷ computes 0x25 (f64 0x7FF0000000000000) (f64 0x8000000000000000) (f64 0xFFF0000000000000)
+    ∷ computes 0x25 (f64 1) (f64 0x8000000000000000) (f64 0xFFF0000000000000)
+    -- zero or NaN by zero: NaN
+    ∷ computes 0x25 (f64 0) (f64 0) (f64 0x7FF8000000000000)
+    ∷ computes 0x25 (f64 0x8000000000000000) (f64 0) (f64 0x7FF8000000000000)
+    ∷ computes 0x25 (f64 0) (f64 0x8000000000000000) (f64 0x7FF8000000000000)
+    ∷ computes 0x25 (f64 0xFFF8000000000123) (f64 0) (f64 0x7FF8000000000000)
+    ∷ computes 0x25 (f64 0x7FF0000000000001) (f64 0x8000000000000000) (f64 0x7FF8000000000000)
+    -- by a zero of another kind it ends the run
+    ∷ fails 0x25 (f64 0x3FF0000000000000) (i32 0) unfitOperand
+    ∷ fails 0x25 (u32 0) (f64 0) unfitOperand
     -- no result
-    ∷ fails 0x25 (f64 0x3FF8000000000000) (f64 0) noResult  -- DivF64 by 0.0
-    ∷ fails 0x25 (f64 0x3FF8000000000000) (f64 0x8000000000000000) noResult  -- DivF64 by -0.0
     ∷ fails 0x27 (i32 7) (i32 0) noResult  -- DivI32
     ∷ fails 0x27 (i32 0x80000000) (i32 0xFFFFFFFF) noResult  -- DivI32 -2,147,483,648 -1
     ∷ fails 0x39 (i32 0x80000000) (i32 0xFFFFFFFF) noResult  -- ModI32
@@ -331,5 +348,5 @@ runs =
     ++ map ofOther (0x17 ∷ 0x3F ∷ 0x43 ∷ []))
 
 pub runs-hold : map (λ (w : Worked). after (map view (w .function)) (w .outside) initial (w .steps)) runs ≡ map (λ (w : Worked). w .entries) runs
-unfolding view loadCell classOf rows meet join quadOf exec set put shown compute meaning meanings wrap addI32 subI32 mulI32 divI32 modI32 addU32 subU32 mulU32 divU32 modU32 addFx subFx mulFx divFx floatOf bitsOf divF64 constEq Ieee.ofBits Ieee.toBits Ieee.eq Ieee.add Ieee.sub Ieee.mul Ieee.div
+unfolding view loadCell classOf rows meet join quadOf exec set put shown compute meaning meanings wrap addI32 subI32 mulI32 divI32 modI32 addU32 subU32 mulU32 divU32 modU32 addFx subFx mulFx divFx floatOf bitsOf constEq Ieee.ofBits Ieee.toBits Ieee.eq Ieee.add Ieee.sub Ieee.mul Ieee.div
 runs-hold = refl

@@ -4,9 +4,11 @@ use mathlib.Core.List.{List, [], _∷_, _++_, map}
 use mathlib.Core.Option.{Option, none, some}
 use Prim.Native.Nat.{ℕ}
 use lib.ListN.{replicate}
+use lib.Ieee as Ieee
 use Rattle.leaves.specs.Signed.{wrap, addI32}
+use Rattle.leaves.specs.Float.{floatOf, bitsOf, divF64}
 use Rattle.leaves.specs.Quads.{quadOf}
-use Rattle.cells.specs.Assembler.{Head, LoadI32, LoadQ, AddI32, QTruthNot, Ret}
+use Rattle.cells.specs.Assembler.{Head, LoadF64, LoadI32, LoadQ, AddI32, DivF64, QTruthNot, Ret}
 use Rattle.cells.specs.Cells.{Cell, flat}
 use Rattle.cells.specs.Check.{instructionCheck, eventCheck, headCheck}
 use Rattle.cells.specs.Functions.{functions}
@@ -50,6 +52,10 @@ rewritten = Head 7 3 0 ∷ LoadI32 1 5 ∷ LoadI32 2 10 ∷ Ret 2 ∷ []
 quads : List Cell
 quads = Head 7 3 0 ∷ LoadQ 1 1 ∷ QTruthNot 2 1 ∷ Ret 2 ∷ []
 
+-- LoadF64 r1 -0.0, DivF64 r2 r1 r1, Ret r2
+zeros : List Cell
+zeros = Head 7 3 0 ∷ LoadF64 1 0x8000000000000000 ∷ DivF64 2 1 1 ∷ Ret 2 ∷ []
+
 -- `good`; `refused 1 0 0`; `refused 2 0 0`; `rewrites 1`, `rewrites 0`
 good : List ℕ
 good = 103 ∷ 111 ∷ 111 ∷ 100 ∷ 10 ∷ []
@@ -79,6 +85,14 @@ cases =
     cellLine (Head 7 3 0) ++ cellLine (LoadQ 1 1) ++ cellLine (QTruthNot 2 1) ++ cellLine (Ret 2) ++ count 48
     )))
     ∷ case bytesWord (flat quads) (some (onOutput (flat quads)))
+    -- a division by zero: the same
+    ∷ case fullerWord (flat zeros) (some (onOutput (
+    cellLine (Head 7 3 0) ++ cellLine (LoadF64 1 0x8000000000000000) ++ cellLine (LoadF64 2 0x7FF8000000000000) ++ cellLine (Ret 2) ++ count 49
+    )))
+    ∷ case rewriteWord (flat zeros) (some (onOutput (
+    cellLine (Head 7 3 0) ++ cellLine (LoadF64 1 0x8000000000000000) ++ cellLine (DivF64 2 1 1) ++ cellLine (Ret 2) ++ count 48
+    )))
+    ∷ case bytesWord (flat zeros) (some (onOutput (flat zeros)))
     -- the empty image is rewritten to the empty image
     ∷ case bytesWord [] (some (onOutput []))
     ∷ case checkWord [] (some (onOutput good))
@@ -97,5 +111,5 @@ cases =
     ∷ []
 
 pub worked : map (λ (c : ProgramCase). case (c .argument) (c .image) (doneFor (askedFor (c .argument)) (c .image))) cases ≡ cases
-unfolding doneFor example rewritten quads good refused count cases askedFor programTexts passAnswer passBytes passCheck passCount siteAnswer imageAnswer functions instructionCheck eventCheck headCheck rows siteOf eventSite siteBy repeatAnswer activationAnswer judgeBy cleanCode cleanCount cleanEvents cleanFunction foldCode foldsOf foldFunction defaultRules defaultTable fullerRules fullerTable note view loadCell quadOf classOf wrap addI32 decimal rewritesLine rewrittenText refusedText refusalText goodText
+unfolding doneFor example rewritten quads zeros good refused count cases askedFor programTexts passAnswer passBytes passCheck passCount siteAnswer imageAnswer functions instructionCheck eventCheck headCheck rows siteOf eventSite siteBy repeatAnswer activationAnswer judgeBy cleanCode cleanCount cleanEvents cleanFunction foldCode foldsOf foldFunction defaultRules defaultTable fullerRules fullerTable note view loadCell quadOf classOf wrap addI32 decimal rewritesLine rewrittenText refusedText refusalText goodText floatOf bitsOf divF64 Ieee.eq Ieee.div Ieee.ofBits Ieee.toBits
 worked = refl

@@ -1,13 +1,15 @@
 -- Worked: the rewriting operations on images and lent outputs written out by hand from document 01 ('Answers of the operations', 'Cells on
--- either edge') and document 02 (W2): the reply, and every byte of the output at exit.
+-- either edge') and document 02 (W2, W4): the reply, and every byte of the output at exit.
 use mathlib.Core.Path.{_≡_, refl}
 use mathlib.Core.Bool.{true, false}
 use mathlib.Core.List.{List, [], _∷_, _++_, map}
 use Prim.Native.Nat.{ℕ}
 use lib.ListN.{length, replicate}
+use lib.Ieee as Ieee
 use Rattle.leaves.specs.Signed.{wrap, addI32}
+use Rattle.leaves.specs.Float.{floatOf, bitsOf, divF64}
 use Rattle.leaves.specs.Quads.{meet, quadOf}
-use Rattle.cells.specs.Assembler.{cell, Head, LoadI32, LoadBool, LoadQ, AddI32, QAnd, QTruthAnd, Ret, RetNothing, site, noSite, StoreVarSited, MakeRecord, Borrow, Write, function}
+use Rattle.cells.specs.Assembler.{cell, Head, LoadI32, LoadBool, LoadF64, LoadQ, AddI32, DivF64, QAnd, QTruthAnd, Ret, RetNothing, site, noSite, StoreVarSited, MakeRecord, Borrow, Write, function}
 use Rattle.cells.specs.Cells.{over}
 use Rattle.cells.specs.Check.{instructionCheck, eventCheck, headCheck}
 use Rattle.cells.specs.Functions.{functions}
@@ -66,6 +68,13 @@ chain = function (LoadQ 1 2 ∷ LoadQ 2 3 ∷ QTruthAnd 3 1 2 ∷ QAnd 4 3 1 ∷
 abbrev pub chainFolded : List ℕ
 chainFolded = Head 7 5 0 ++ LoadQ 1 2 ++ LoadQ 2 3 ++ LoadQ 3 3 ++ LoadQ 4 2 ++ Ret 4
 
+-- LoadF64 r1 1.0, LoadF64 r2 -0.0, DivF64 r3 r1 r2 (-infinity), DivF64 r4 r3 r2 (infinity), Ret r4
+abbrev pub quotients : List ℕ
+quotients = function (LoadF64 1 0x3FF0000000000000 ∷ LoadF64 2 0x8000000000000000 ∷ DivF64 3 1 2 ∷ DivF64 4 3 2 ∷ Ret 4 ∷ []) []
+
+abbrev pub quotientsFolded : List ℕ
+quotientsFolded = Head 7 5 0 ++ LoadF64 1 0x3FF0000000000000 ++ LoadF64 2 0x8000000000000000 ++ LoadF64 3 0xFFF0000000000000 ++ LoadF64 4 0x7FF0000000000000 ++ Ret 4
+
 abbrev pub operations : List OperationCase
 operations =
     -- the printed example, by each operation
@@ -102,6 +111,10 @@ operations =
     ∷ operation whole chain (lent 96) (success 96 0 false) chain
     ∷ operation (CrystalFold Default) chain (lent 96) (success 96 0 false) chain
     ∷ operation fuller chain (lent 112) (success 96 2 true) (chainFolded ++ lent 16)
+    -- division of an f64 by zero: the same
+    ∷ operation whole quotients (lent 96) (success 96 0 false) quotients
+    ∷ operation (CrystalFold Default) quotients (lent 96) (success 96 0 false) quotients
+    ∷ operation fuller quotients (lent 112) (success 96 2 true) (quotientsFolded ++ lent 16)
     -- what the default rewrite does the fuller one does too; it refuses as the default one
     ∷ operation fuller example (lent 64) (success 64 1 true) folded
     ∷ operation fuller (function (LoadI32 1 5 ∷ LoadBool 1 1 ∷ []) []) (lent 48) (success 32 1 true) (Head 7 1 0 ++ LoadBool 1 1 ++ lent 16)
@@ -116,5 +129,5 @@ operations =
 pub operations-hold :
     map (λ (c : OperationCase). operation (c .pass) (c .image) (c .before) (replyOf (passAnswer (c .pass) (c .image) (length (c .before)))) (passOutput (c .pass) (c .image) (c .before))) operations
     ≡ operations
-unfolding over functions instructionCheck eventCheck headCheck rows classOf view loadCell siteOf eventSite siteBy repeatAnswer activationAnswer judgeBy cleanFunction cleanCode cleanEvents cleanCount defaultTable defaultRules fullerTable fullerRules note foldFunction foldCode foldsOf imageAnswer siteAnswer passBytes passCount passCheck passAnswer passOutput wrap addI32 meet quadOf
+unfolding over functions instructionCheck eventCheck headCheck rows classOf view loadCell siteOf eventSite siteBy repeatAnswer activationAnswer judgeBy cleanFunction cleanCode cleanEvents cleanCount defaultTable defaultRules fullerTable fullerRules note foldFunction foldCode foldsOf imageAnswer siteAnswer passBytes passCount passCheck passAnswer passOutput wrap addI32 meet quadOf floatOf bitsOf divF64 Ieee.eq Ieee.div Ieee.ofBits Ieee.toBits
 operations-hold = refl

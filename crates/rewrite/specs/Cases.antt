@@ -1,22 +1,28 @@
 -- Worked: Document 01's starred cases ('Cells on either edge') and its printed example, through the whole rewrite with the default rules; and document
--- 02's truth-order quads (W2), through both rewrites: a table each, and one theorem of all its rows.
+-- 02's truth-order quads (W2) and divisions of an f64 by zero (W4), through both rewrites, the latter also by what is recorded before and after: a
+-- table each, and one theorem of all its rows.
 use mathlib.Core.Path.{_≡_, refl}
 use mathlib.Core.Bool.{true, false}
+use mathlib.Core.Option.{some}
 use mathlib.Core.List.{List, [], _∷_, map}
 use Prim.Native.Nat.{ℕ}
 use lib.Ieee as Ieee
 use Rattle.leaves.specs.declared.quad.Quad.the-variants.{N, F, T, S}
 use Rattle.leaves.specs.Signed.{wrap, addI32, divI32, modI32}
-use Rattle.leaves.specs.Unsigned.{subU32}
-use Rattle.leaves.specs.Fixed.{mulFx}
-use Rattle.leaves.specs.Float.{floatOf}
+use Rattle.leaves.specs.Unsigned.{subU32, divU32}
+use Rattle.leaves.specs.Fixed.{mulFx, divFx}
+use Rattle.leaves.specs.Float.{floatOf, bitsOf, divF64}
 use Rattle.leaves.specs.Quads.{meet, join, quadOf}
 use Rattle.leaves.specs.Constants.{constEq}
 use Rattle.cells.specs.Cells.{Cell}
 use Rattle.cells.specs.Ins.{Const, quad, bool, f64, i32, u32, fx}
 use Rattle.cells.specs.Table.{rows, classOf}
 use Rattle.cells.specs.View.{view, loadCell}
-use Rattle.cells.specs.Assembler.{Label, Jmp, Ret, LoadBool, LoadI32, LoadQ, LoadU32, binary, unary, AddI32, QAnd, QTruthAnd, QTruthImpl, QTruthNot, QTruthOr, ClockRead}
+use Rattle.cells.specs.Assembler.{Label, Jmp, Ret, LoadBool, LoadF64, LoadI32, LoadQ, LoadU32, binary, unary, AddI32, CmpEq, DivF64, SubF64, QAnd, QTruthAnd, QTruthImpl, QTruthNot, QTruthOr, ClockRead, StoreVar}
+use Rattle.machine.specs.Values.{con, other, set, put, shown}
+use Rattle.machine.specs.Compute.{meanings, meaning, compute}
+use Rattle.machine.specs.Run.{returned, Entry, did, ended, exec, after}
+use Rattle.machine.specs.Runs.{initial, holding, counts}
 use Rattle.cleanup.specs.Cleanup.{cleanCode, cleanCount}
 use Rattle.cleanup.specs.Cases.{FunctionCase, case}
 use Rattle.crystalfold.specs.Rules.{defaultTable, defaultRules, fullerTable, fullerRules}
@@ -82,6 +88,11 @@ pub record BothCase : Type 0 where
 abbrev pub both : List Cell → List Cell → ℕ → List Cell → ℕ → BothCase
 both s d m f n = record { sent = s; byDefault = d; defaultCount = m; byFuller = f; fullerCount = n }
 
+-- what the rewrites make of a case's function
+abbrev pub asRewritten : BothCase → BothCase
+asRewritten c =
+    both (c .sent) (rewriteCode defaultRules (c .sent)) (rewriteCount defaultRules (c .sent)) (rewriteCode fullerRules (c .sent)) (rewriteCount fullerRules (c .sent))
+
 -- left by the default rewrite, which changes nothing
 abbrev pub folded : List Cell → List Cell → ℕ → BothCase
 folded s f n = both s s 0 f n
@@ -145,8 +156,126 @@ truthCases =
     ∷ both (LoadI32 1 5 ∷ AddI32 2 1 1 ∷ Ret 2 ∷ QTruthNot 3 1 ∷ []) (LoadI32 1 5 ∷ LoadI32 2 10 ∷ Ret 2 ∷ []) 2 (LoadI32 1 5 ∷ LoadI32 2 10 ∷ Ret 2 ∷ []) 2
     ∷ []
 
-pub truth-hold :
-    map (λ (c : BothCase). both (c .sent) (rewriteCode defaultRules (c .sent)) (rewriteCount defaultRules (c .sent)) (rewriteCode fullerRules (c .sent)) (rewriteCount fullerRules (c .sent))) truthCases
-    ≡ truthCases
+pub truth-hold : map asRewritten truthCases ≡ truthCases
 unfolding rewriteCode rewriteCount cleanCode cleanCount foldCode foldsOf defaultRules defaultTable fullerRules fullerTable note view loadCell classOf rows meet join quadOf wrap addI32
 truth-hold = refl
+
+-- ---- division of an f64 by zero: "The fuller rewrite folds these divisions and the default one still leaves them"
+
+-- f64's by their bits: 1.0, -1.0, -0.0 (0.0 is 0), infinity and -infinity, NaN as it is computed
+abbrev pub one : ℕ
+one = 0x3FF0000000000000
+
+abbrev pub minusOne : ℕ
+minusOne = 0xBFF0000000000000
+
+abbrev pub minusZero : ℕ
+minusZero = 0x8000000000000000
+
+abbrev pub infinity : ℕ
+infinity = 0x7FF0000000000000
+
+abbrev pub minusInfinity : ℕ
+minusInfinity = 0xFFF0000000000000
+
+abbrev pub computedNan : ℕ
+computedNan = 0x7FF8000000000000
+
+abbrev pub divisionCases : List BothCase
+divisionCases =
+    -- one register for both operands and dst
+    folded (LoadF64 1 0 ∷ DivF64 1 1 1 ∷ Ret 1 ∷ []) (LoadF64 1 0 ∷ LoadF64 1 computedNan ∷ Ret 1 ∷ []) 1
+    -- what follows from a folded one: infinity less itself is NaN, which isn't equal to itself
+    ∷ folded (LoadF64 1 one ∷ LoadF64 2 0 ∷ DivF64 3 1 2 ∷ SubF64 4 3 3 ∷ CmpEq 5 4 4 ∷ Ret 5 ∷ [])
+    (LoadF64 1 one ∷ LoadF64 2 0 ∷ LoadF64 3 infinity ∷ LoadF64 4 computedNan ∷ LoadBool 5 0 ∷ Ret 5 ∷ [])
+    3
+    -- the default rewrite forgets dst, so that SubF64 r3 r1 r2 stays there; what doesn't depend on it is folded by both: the zero itself
+    ∷ folded (LoadF64 1 minusOne ∷ LoadF64 2 0 ∷ DivF64 1 1 2 ∷ SubF64 3 1 2 ∷ [])
+    (LoadF64 1 minusOne ∷ LoadF64 2 0 ∷ LoadF64 1 minusInfinity ∷ LoadF64 3 minusInfinity ∷ [])
+    2
+    ∷ both (LoadF64 1 one ∷ SubF64 2 1 1 ∷ DivF64 3 1 2 ∷ [])
+    (LoadF64 1 one ∷ LoadF64 2 0 ∷ DivF64 3 1 2 ∷ [])
+    1
+    (LoadF64 1 one ∷ LoadF64 2 0 ∷ LoadF64 3 infinity ∷ [])
+    2
+    -- by another divisor both fold: 1.0 by -1.0, by infinity, and by a NaN
+    ∷ foldedByBoth one minusOne minusOne
+    ∷ foldedByBoth one infinity 0
+    ∷ foldedByBoth one 0xFFF0000000000001 computedNan
+    -- an operand unknown, on either side; or of another kind
+    ∷ left (LoadF64 2 0 ∷ DivF64 3 1 2 ∷ [])
+    ∷ left (LoadF64 1 one ∷ DivF64 3 1 2 ∷ [])
+    ∷ left (LoadF64 1 one ∷ LoadI32 2 0 ∷ DivF64 3 1 2 ∷ [])
+    ∷ left (LoadU32 1 0 ∷ LoadF64 2 0 ∷ DivF64 3 1 2 ∷ [])
+    -- both forget the dst of one that stays, so that SubF64 r3 r1 r1 stays
+    ∷ left (LoadF64 1 one ∷ LoadI32 2 0 ∷ DivF64 1 1 2 ∷ SubF64 3 1 1 ∷ [])
+    -- nothing is known past a barrier
+    ∷ left (LoadF64 1 one ∷ LoadF64 2 0 ∷ Label 1 ∷ DivF64 3 1 2 ∷ [])
+    -- divisions of other kinds by zero stay in both: DivI32, DivU32, DivFx
+    ∷ left (LoadI32 1 5 ∷ LoadI32 2 0 ∷ binary 0x27 3 1 2 ∷ [])
+    ∷ left (LoadU32 1 5 ∷ LoadU32 2 0 ∷ binary 0x21 3 1 2 ∷ [])
+    ∷ left (loadCell 1 (fx 1500) ∷ loadCell 2 (fx 0) ∷ binary 0x26 3 1 2 ∷ [])
+    ∷ []
+  where
+    foldedByBoth : ℕ → ℕ → ℕ → BothCase
+    foldedByBoth x y q =
+        let back : List Cell = LoadF64 1 x ∷ LoadF64 2 y ∷ LoadF64 3 q ∷ [] in
+        both (LoadF64 1 x ∷ LoadF64 2 y ∷ DivF64 3 1 2 ∷ []) back 1 back 1
+
+pub divisions-hold : map asRewritten divisionCases ≡ divisionCases
+unfolding rewriteCode rewriteCount cleanCode cleanCount foldCode foldsOf defaultRules defaultTable fullerRules fullerTable note view loadCell classOf rows wrap divI32 divU32 divFx constEq floatOf bitsOf divF64 Ieee.eq Ieee.sub Ieee.div Ieee.ofBits Ieee.toBits
+divisions-hold = refl
+
+-- ---- "a sent script that divides by zero must go on recording the same things after either rewrite"
+
+pub record Division : Type 0 where
+  pub dividend : ℕ
+  pub divisor : ℕ
+  pub quotient : ℕ
+
+abbrev pub by : ℕ → ℕ → ℕ → Division
+by x z q = record { dividend = x; divisor = z; quotient = q }
+
+abbrev pub divisions : List Division
+divisions =
+    -- a number other than zero: an infinity with the product of the signs
+    by one 0 infinity
+    ∷ by minusOne 0 minusInfinity
+    ∷ by one minusZero minusInfinity
+    ∷ by minusOne minusZero infinity
+    ∷ by infinity 0 infinity
+    ∷ by minusInfinity 0 minusInfinity
+    ∷ by infinity minusZero minusInfinity
+    -- the least subnormal number
+    ∷ by 1 minusZero minusInfinity
+    -- zero or NaN: NaN
+    ∷ by 0 0 computedNan
+    ∷ by minusZero 0 computedNan
+    ∷ by 0 minusZero computedNan
+    ∷ by computedNan 0 computedNan
+    ∷ by 0xFFF8000000000123 minusZero computedNan
+    ∷ []
+
+-- the quotient in r3, recorded by an outside action and by the end
+abbrev pub sentFor : Division → List Cell
+sentFor d = LoadF64 1 (d .dividend) ∷ LoadF64 2 (d .divisor) ∷ DivF64 3 1 2 ∷ StoreVar 3 ∷ Ret 3 ∷ []
+
+abbrev pub foldedFor : Division → List Cell
+foldedFor d = LoadF64 1 (d .dividend) ∷ LoadF64 2 (d .divisor) ∷ LoadF64 3 (d .quotient) ∷ StoreVar 3 ∷ Ret 3 ∷ []
+
+abbrev pub entriesFor : Division → List Entry
+entriesFor d =
+    let registers = holding (other 0 ∷ con (f64 (d .dividend)) ∷ con (f64 (d .divisor)) ∷ con (f64 (d .quotient)) ∷ []) in
+    did (StoreVar 3) registers ∷ ended (returned (some 3)) registers ∷ []
+
+-- each as it is handed back by both rewrites, and its record after five steps: as sent, and as either rewrite hands it back
+abbrev pub recorded : List Cell → List Entry
+recorded p = after (map view p) counts initial 5
+
+pub records-hold :
+    (map (λ (d : Division). asRewritten (folded (sentFor d) [] 0)) divisions ≡ map (λ (d : Division). folded (sentFor d) (foldedFor d) 1) divisions)
+    × (map (λ (d : Division). recorded (sentFor d)) divisions ≡ map entriesFor divisions)
+    × (map (λ (d : Division). recorded (rewriteCode defaultRules (sentFor d))) divisions ≡ map entriesFor divisions)
+    × (map (λ (d : Division). recorded (rewriteCode fullerRules (sentFor d))) divisions ≡ map entriesFor divisions)
+unfolding rewriteCode rewriteCount cleanCode cleanCount foldCode foldsOf defaultRules defaultTable fullerRules fullerTable note view loadCell classOf rows floatOf bitsOf divF64 exec set put shown compute meaning meanings Ieee.eq Ieee.div Ieee.ofBits Ieee.toBits
+records-hold = (refl, refl, refl, refl)

@@ -15,6 +15,7 @@ pub fn rows() -> Vec<(&'static str, Vec<u8>)> {
         ("overwritten loads", instrs(|at| load_i32(1, at as i32))),
         ("folds", instrs(folds)),
         ("truth-order quads", instrs(truth_order)),
+        ("f64 by zero", instrs(by_zero)),
         ("unknown operands", instrs(|at| computed(COMPUTED[at % 8], at as u8, 7, 200))),
         ("borrow sites", borrow_sites()),
         ("write sites", write_sites()),
@@ -70,6 +71,16 @@ fn truth_order(at: usize) -> Cell {
     }
     let (left, right) = (at / 4 % 4, at / 16 % 4);
     computed(leaves::TRUTH_ORDER[at % 4], 16 + (at % 200) as u8, left as u8, right as u8)
+}
+
+/// 1.0, -1.0 and both zeros, then divisions by zero, which only the fuller rewrite folds.
+fn by_zero(at: usize) -> Cell {
+    let bits = [0x3FF0_0000_0000_0000, 0xBFF0_0000_0000_0000, 0, 1 << 63];
+    if at < bits.len() {
+        return leaves::load(at, Const::F64(bits[at]));
+    }
+    let (left, right) = (at % 4, 2 + at / 4 % 2);
+    computed(byte::DivF64, 16 + (at % 200) as u8, left as u8, right as u8)
 }
 
 /// A load of each kind, then a fold in every cell.

@@ -26,9 +26,13 @@ unfolding pick
 returns-5 c = simp (c .of-f644 .ensures, c .before .div-f64 .ensures, c .before .before .match .keys5)
 
 returns-6 : tie.Need-returns-6
-returns-6 c =
+unfolding pick
+returns-6 c = simp (c .of-f645 .ensures, c .before .ieee-div-f64 .ensures, c .before .before .match .keys6)
+
+returns-7 : tie.Need-returns-7
+returns-7 c =
     let not = c .match .rest in
-    none-from-0 _ _ (not .0 .0 .0 .0 .1, (not .0 .0 .0 .1, (not .0 .0 .1, (not .0 .1, (not .1, tt)))))
+    none-from-0 _ _ (not .0 .0 .0 .0 .0 .1, (not .0 .0 .0 .0 .1, (not .0 .0 .0 .1, (not .0 .0 .1, (not .0 .1, (not .1, tt))))))
 
 pub f64-leaf-spec : {M : Type 1} → statement M
 f64-leaf-spec =
@@ -43,9 +47,12 @@ f64-leaf-spec =
     (λ c κs. search needs)
     (λ c κs. search needs)
     (λ c κs. search needs)
+    (λ c κs. search needs)
+    (λ c κs. search needs)
     returns
     returns-2
     returns-3
     returns-4
     returns-5
-    returns-6)
+    returns-6
+    returns-7)

@@ -18,7 +18,8 @@ module _ (d : tie.After-known-told2) where
       → let start = d .before .before .before .before .before .before .args in
       let l = d .before .before .before .before .left .given in
       let r = d .before .right .given in
-      start .op ≡ o → v ≡ leafOf o f64Leaves (l .0 .0) (r .0 .0) → v ≡ evaluate (some (twoF64 (leafOf (start .op) f64Leaves))) (start .left) (start .right)
+      start .op ≡ o → v ≡ leafOf o (f64Leaves (start .rules)) (l .0 .0) (r .0 .0)
+      → v ≡ evaluate (some (twoF64 (leafOf (start .op) (f64Leaves (start .rules))))) (start .left) (start .right)
   comes-to p e = rw (p, d .before .before .before .before .left .given .1, d .before .right .given .1) e
 
 pub fold-f64-spec : {M : Type 1} → statement M
@@ -36,7 +37,7 @@ fold-f64-spec =
     (λ c κs. search needs)
     (λ c κs. search needs)
     (λ c. comes-to (c .before .before) (c .before .match3 .keys1) (c .add-f64 .ensures))
-    (λ c. comes-to (c .before .before) (c .before .match3 .keys2) (c .div-f64 .ensures))
+    (λ c. comes-to (c .before .before) (c .before .match3 .keys2) (c .divide-f64 .ensures))
     (λ c. comes-to (c .before .before) (c .before .match3 .keys3) (c .mul-f64 .ensures))
     (λ c. comes-to (c .before .before) (c .before .match3 .keys4) (c .sub-f64 .ensures))
-    (λ c. comes-to (c .before) refl (no-leaf f64Leaves _ _ _ (c .match3 .rest) refl)))
+    (λ c. comes-to (c .before) refl (no-leaf (f64Leaves (c .before .before .before .before .before .before .before .args .rules)) _ _ _ (c .match3 .rest) refl)))

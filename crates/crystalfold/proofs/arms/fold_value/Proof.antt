@@ -1,5 +1,5 @@
 -- `arms::fold_value` meets its contract: an arm for each command that every rule set has, in the default table's order, then for each that only the
--- fuller rules have.
+-- fuller rules have. DivF64 has a meaning in each.
 use mathlib.Core.Path.{_≡_, refl, _∙_}
 use mathlib.Core.Option.{Option, none, some}
 use mathlib.Core.List.{List, [], _∷_, _++_, map}
@@ -8,21 +8,26 @@ use Rattle.leaves.specs.declared.constant.ConstVal.{ConstVal}
 use Rattle.leaves.specs.declared.verdict.Verdict.{Verdict}
 use Rattle.leaves.specs.declared.verdict.Verdict.the-variants.{NotComputed}
 use Rattle.cells.proofs.Matches.{Missed, singly}
-use Rattle.machine.specs.Evaluate.{Meaning, Means, evaluate}
+use Rattle.machine.specs.Evaluate.{Meaning, twoF64, Means, evaluate}
 use Rattle.crystalfold.specs.declared.rules.RuleSet.{RuleSet}
 use Rattle.crystalfold.specs.declared.rules.RuleSet.the-variants.{Default, Fuller}
 use Rattle.crystalfold.specs.Rules.{defaultTable, defaultRules, fullerTable, fullerRules, rulesOf}
-use Rattle.crystalfold.specs.Arms.{onlyFuller, Choice, choice}
+use Rattle.crystalfold.specs.Arms.{onlyFuller, divisionOf, Choice, choice}
 use Rattle.crystalfold.proofs.Meanings.{not-chosen}
 use borrow.Author.Needs.{needs}
 use Rattle.crystalfold.proofs.arms.fold_value.Statement.{statement}
 use Rattle.crystalfold.proofs.arms.fold_value.Tie as tie
 
--- ---- a command that every rule set has; one that only the fuller rules have; one that none has
+-- ---- a command that every rule set has with one meaning, or with its own; one that only the fuller rules have; one that none has
 
 in-both : (s : RuleSet) (o : ℕ) (m : Meaning) → defaultRules o ≡ some m → fullerRules o ≡ some m → rulesOf s o ≡ some m
 in-both Default o m d f = d
 in-both Fuller o m d f = f
+
+division : (s : RuleSet) → rulesOf s 0x25 ≡ some (twoF64 (divisionOf s))
+unfolding defaultRules defaultTable fullerRules fullerTable
+division Default = refl
+division Fuller = refl
 
 only-fuller : (s : RuleSet) (o : ℕ) (m : Meaning) → defaultRules o ≡ none → fullerRules o ≡ some m → (l r : ConstVal)
     → onlyFuller s (evaluate (some m) l r) ≡ evaluate (rulesOf s o) l r
@@ -47,6 +52,11 @@ module _ (c : tie.Start) (r : Verdict) where
       → r ≡ evaluate (some m) (c .args .left) (c .args .right)
       → r ≡ evaluate (rulesOf (c .args .rules) (c .args .op)) (c .args .left) (c .args .right)
   folds o m k d f e = rw (k, in-both (c .args .rules) o m d f) e
+
+  folds-division : c .args .op ≡ 0x25
+      → r ≡ evaluate (some (twoF64 (divisionOf (c .args .rules)))) (c .args .left) (c .args .right)
+      → r ≡ evaluate (rulesOf (c .args .rules) (c .args .op)) (c .args .left) (c .args .right)
+  folds-division k e = rw (k, division (c .args .rules)) e
 
   folds-truth : (o : ℕ) (m : Meaning) → c .args .op ≡ o → defaultRules o ≡ none → fullerRules o ≡ some m
       → r ≡ onlyFuller (c .args .rules) (evaluate (some m) (c .args .left) (c .args .right))
@@ -97,7 +107,7 @@ fold-value-spec =
     (λ c κs. search needs)
     (λ c κs. search needs)
     (λ c. folds (c .before .before) _ 0x11 _ (c .before .match .keys1) refl refl (rw (c .before .match .keys1) at (c .fold-f64 .ensures)))
-    (λ c. folds (c .before .before) _ 0x25 _ (c .before .match .keys2) refl refl (rw (c .before .match .keys2) at (c .fold-f642 .ensures)))
+    (λ c. folds-division (c .before .before) _ (c .before .match .keys2) (rw (c .before .match .keys2) at (c .fold-f642 .ensures)))
     (λ c. folds (c .before .before) _ 0x3A _ (c .before .match .keys3) refl refl (rw (c .before .match .keys3) at (c .fold-f643 .ensures)))
     (λ c. folds (c .before .before) _ 0x4E _ (c .before .match .keys4) refl refl (rw (c .before .match .keys4) at (c .fold-f644 .ensures)))
     (λ c. folds (c .before .before) _ 0x12 _ (c .before .match .keys5) refl refl (rw (c .before .match .keys5) at (c .fold-fx .ensures)))
