@@ -260,20 +260,23 @@ divisions =
 abbrev pub sentFor : Division → List Cell
 sentFor d = LoadF64 1 (d .dividend) ∷ LoadF64 2 (d .divisor) ∷ DivF64 3 1 2 ∷ StoreVar 3 ∷ Ret 3 ∷ []
 
-abbrev pub foldedFor : Division → List Cell
-foldedFor d = LoadF64 1 (d .dividend) ∷ LoadF64 2 (d .divisor) ∷ LoadF64 3 (d .quotient) ∷ StoreVar 3 ∷ Ret 3 ∷ []
+-- as handed back: the default rewrite leaves it
+abbrev pub backFor : Division → BothCase
+backFor d = folded (sentFor d) (LoadF64 1 (d .dividend) ∷ LoadF64 2 (d .divisor) ∷ LoadF64 3 (d .quotient) ∷ StoreVar 3 ∷ Ret 3 ∷ []) 1
 
+-- what it records
 abbrev pub entriesFor : Division → List Entry
 entriesFor d =
     let registers = holding (other 0 ∷ con (f64 (d .dividend)) ∷ con (f64 (d .divisor)) ∷ con (f64 (d .quotient)) ∷ []) in
     did (StoreVar 3) registers ∷ ended (returned (some 3)) registers ∷ []
 
--- each as it is handed back by both rewrites, and its record after five steps: as sent, and as either rewrite hands it back
+-- in five steps, each of its cells one
 abbrev pub recorded : List Cell → List Entry
 recorded p = after (map view p) counts initial 5
 
+-- what each rewrite hands back; and the records: as sent, and as handed back by the default rewrite and by the fuller one
 pub records-hold :
-    (map (λ (d : Division). asRewritten (folded (sentFor d) [] 0)) divisions ≡ map (λ (d : Division). folded (sentFor d) (foldedFor d) 1) divisions)
+    (map (λ (d : Division). asRewritten (backFor d)) divisions ≡ map backFor divisions)
     × (map (λ (d : Division). recorded (sentFor d)) divisions ≡ map entriesFor divisions)
     × (map (λ (d : Division). recorded (rewriteCode defaultRules (sentFor d))) divisions ≡ map entriesFor divisions)
     × (map (λ (d : Division). recorded (rewriteCode fullerRules (sentFor d))) divisions ≡ map entriesFor divisions)

@@ -5,11 +5,12 @@ use crate::answers::{
     checked_text, rewritten_text, Checked, Operation, Operations, Refusal, Rewritten, Success,
     OPERATIONS, ORIGINALS,
 };
-use crate::cells;
-use crate::leaves;
+use crate::cells::{self, REGISTERS};
+use crate::leaves::{self, Const};
 use crate::legacy_lowering::byte;
 use crate::model;
 use crate::original::{self, Answers};
+use crate::table;
 
 /// What differs, and both answers.
 #[derive(Debug, Clone)]
@@ -191,11 +192,10 @@ impl Expected {
         (Ok(*success), bytes)
     }
 
-    /// Holds an answer to the fuller rewrite against the original's to the default one, whatever
-    /// the truth-order leaves give. It refuses as the default does. Where no truth-order command
-    /// stands it answers and writes the same. Elsewhere it has as many cells, each the default's,
-    /// or a load where the default keeps a computed command: a truth-order one, or one behind
-    /// such a one with no barrier between. Each of those counts 1 more.
+    /// Holds an answer to the fuller rewrite against the original alone, whatever the commands that
+    /// only the fuller one folds give. It refuses as the default does. Its loads in place of such
+    /// commands are put into what the original's cleanup writes; what the original's CrystalFold
+    /// makes of that are its bytes, and each of these loads counts 1 more.
     fn check_by_the_original(
         &self,
         image: &[u8],
@@ -212,32 +212,70 @@ impl Expected {
         let (Ok(default), Ok(success)) = (default, answer) else {
             return Ok(());
         };
-        let mut folds = 0;
-        let mut truth_order = false;
-        for (cell, fuller) in cells::cells(bytes).iter().zip(cells::cells(written)) {
-            // A head and a barrier; no event is a computed command.
-            if cell[0] == cells::HEAD || cell[0] <= byte::StateUpdate {
-                truth_order = false;
-            }
-            truth_order |= leaves::TRUTH_ORDER.contains(&cell[0]);
-            if cell == fuller {
-                continue;
-            }
-            let computed = leaves::operands(cell[0]).is_some();
-            let loads = leaves::loaded(fuller).is_some() && fuller[1..3] == cell[1..3];
-            if !(truth_order && computed && loads) {
-                let what = "Fuller by the original, bytes written";
-                return difference(what, hexadecimal(cell), hexadecimal(fuller));
-            }
-            folds += 1;
+        let written = &written[..success.length];
+        let (cleaned, cleanup) = self.success(Operation::Cleanup).unwrap();
+        let (with_loads, loads) = with_fuller_loads(cleaned, written);
+        // Without any, the original has answered already.
+        let (bytes, num_rewrites) = if loads == 0 {
+            (bytes.to_vec(), default.num_rewrites)
+        } else {
+            let folded = original::crystalfold(&with_loads);
+            let (bytes, crystalfold) = folded.map_err(|got| Difference {
+                what: "the original, with the loads of the fuller rewrite".into(),
+                expected: "an answer".into(),
+                got,
+            })?;
+            (bytes, cleanup.num_rewrites + crystalfold.num_rewrites + loads)
+        };
+        if written != bytes {
+            let what = "Fuller by the original, bytes written";
+            return difference(what, hexadecimal(&bytes), hexadecimal(written));
         }
-        let num_rewrites = default.num_rewrites + folds;
         let expected = Success { num_rewrites, changed: num_rewrites > 0, ..default };
         if *success != expected {
             return difference(what, expected.to_string(), success.to_string());
         }
         Ok(())
     }
+}
+
+/// An image that has been cleaned, with the loads that a fuller rewrite has in place of commands
+/// that only it folds; and their number.
+fn with_fuller_loads(cleaned: &[u8], fuller: &[u8]) -> (Vec<u8>, u32) {
+    let mut bytes = cleaned.to_vec();
+    let mut loads = 0;
+    let cells = bytes.as_chunks_mut().0.iter_mut().zip(cells::cells(fuller));
+    for ((cell, fuller), values) in cells.zip(fuller_only_folds(cleaned, fuller)) {
+        if values.is_some() {
+            *cell = *fuller;
+            loads += 1;
+        }
+    }
+    (bytes, loads)
+}
+
+/// For each cell of an image that has been cleaned, if a fuller rewrite has a load in place of a
+/// command that only it folds: the values of the operands, as loaded before it by what that
+/// rewrite wrote.
+pub fn fuller_only_folds(cleaned: &[u8], fuller: &[u8]) -> Vec<Option<(Const, Const)>> {
+    let mut known: [Option<Const>; REGISTERS] = [None; REGISTERS];
+    let cells = cells::cells(cleaned).iter().zip(cells::cells(fuller));
+    let folds = cells.map(|(cell, fuller)| {
+        // A head or a barrier, or an event.
+        if cell[0] == cells::HEAD || cell[0] <= byte::StateUpdate {
+            known.fill(None);
+            return None;
+        }
+        let dst = table::layout(cell[0])?.dst(cell)?;
+        let operands = leaves::operand_values(cell, &known);
+        known[dst] = leaves::loaded(fuller).filter(|load| load.0 == dst).map(|load| load.1);
+        let (Some(left), Some(right)) = operands? else {
+            return None;
+        };
+        let folds = known[dst].is_some() && leaves::fuller_only(cell[0], left, right);
+        folds.then_some((left, right))
+    });
+    folds.collect()
 }
 
 /// Bytes as 32 digits a cell.

@@ -107,6 +107,7 @@ pub const NO_OUTPUT: isize = -(1 << 20);
 pub fn exhaustive() -> Vec<Exhaustive> {
     vec![
         every_length(),
+        short_divisions(),
         short_quads(),
         every_fold(),
         every_pair(),
@@ -213,6 +214,37 @@ fn short_quads() -> Exhaustive {
         more: &[0],
         run: words(&alphabet, SHORT - 1),
         count: words(&alphabet, SHORT),
+        image: Box::new(move |index| one_function(&word(&alphabet, index), &[])),
+    }
+}
+
+/// Divisions by either zero: of numbers of both signs, of infinity, NaN and zero, of what is
+/// unknown, by a zero of another kind; quotients that feed further commands, a barrier between.
+fn short_divisions() -> Exhaustive {
+    let float = |register, number: f64| leaves::load(register, Const::F64(number.to_bits()));
+    let alphabet = vec![
+        float(1, 1.0),
+        float(1, -1.0),
+        float(1, f64::INFINITY),
+        leaves::load(1, Const::F64(0xFFF8_0000_0000_0123)),
+        float(2, 0.0),
+        float(2, -0.0),
+        load_i32(2, 0),
+        cell(byte::LoadVar, &[1, 0, 9, 0]),
+        label(1),
+        computed(byte::DivF64, 1, 1, 2),
+        computed(byte::DivF64, 3, 1, 2),
+        computed(byte::DivF64, 3, 2, 2),
+        computed(byte::DivF64, 2, 2, 1),
+        computed(byte::AddF64, 3, 1, 3),
+        computed(byte::MulF64, 2, 1, 2),
+        computed(byte::CmpEq, 4, 1, 3),
+    ];
+    Exhaustive {
+        name: "short divisions",
+        more: &[0],
+        run: words(&alphabet, SHORT - 1),
+        count: words(&alphabet, SHORT - 1),
         image: Box::new(move |index| one_function(&word(&alphabet, index), &[])),
     }
 }
@@ -460,11 +492,18 @@ pub struct Shape {
     pub one_place: bool,
 }
 
+/// How many of a hundred times some commands come together, besides sites and control.
+#[derive(Clone, Copy, Default)]
+pub struct Often {
+    pub quads: usize,
+    /// Divisions by a float zero.
+    pub divisions: usize,
+}
+
 struct Maker<'a> {
     random: &'a mut Random,
     shape: Shape,
-    /// How many of a hundred times quads come, besides sites and control.
-    quads: usize,
+    often: Often,
     next_site: u32,
     labels: u16,
 }
@@ -512,8 +551,12 @@ impl Maker<'_> {
         if choice < self.shape.sites + self.shape.control {
             return instrs.push(self.control());
         }
-        if choice < self.shape.sites + self.shape.control + self.quads {
+        if choice < self.shape.sites + self.shape.control + self.often.quads {
             return self.push_quads(instrs);
+        }
+        let often = self.often.quads + self.often.divisions;
+        if choice < self.shape.sites + self.shape.control + often {
+            return self.push_divisions(instrs);
         }
         if self.random.chance(self.shape.actions) {
             return instrs.push(self.action());
@@ -605,6 +648,32 @@ impl Maker<'_> {
         }
     }
 
+    /// Loads of a float and of a zero, most often, the division by it, and commands on the quotient.
+    fn push_divisions(&mut self, instrs: &mut Vec<Cell>) {
+        // The first registers that hold floats.
+        let (dividend, divisor) = (6, 7);
+        if self.random.chance(75) {
+            instrs.push(leaves::load(dividend, any_const(self.random, 3)));
+        }
+        if self.random.chance(75) {
+            let zero = self.random.pick(&[0, leaves::SIGN]);
+            instrs.push(leaves::load(divisor, Const::F64(zero)));
+        }
+        let dst = self.register(3);
+        instrs.push(computed(byte::DivF64, dst, dividend as u8, divisor as u8));
+        for _ in 0..self.random.below(4) {
+            let (command, result) = self.random.pick(&[
+                (byte::AddF64, 3),
+                (byte::SubF64, 3),
+                (byte::MulF64, 3),
+                (byte::DivF64, 3),
+                (byte::CmpEq, 4),
+            ]);
+            let (dst, lhs, rhs) = (self.register(result), self.register(3), self.register(3));
+            instrs.push(computed(command, dst, lhs, rhs));
+        }
+    }
+
     /// An action without sites, or a truth-order command, on registers of any kind.
     fn action(&mut self) -> Cell {
         let command = loop {
@@ -645,18 +714,18 @@ fn is_action(command: u8) -> bool {
 
 /// A function whose sites are good.
 pub fn any_function(random: &mut Random, shape: Shape) -> (Vec<Cell>, Vec<Cell>) {
-    any_function_with_quads(random, shape, 0)
+    any_function_with(random, shape, Often::default())
 }
 
-/// The same, with quads this many of a hundred times, besides sites and control.
-pub fn any_function_with_quads(
+/// The same, with some commands often.
+pub fn any_function_with(
     random: &mut Random,
     shape: Shape,
-    quads: usize,
+    often: Often,
 ) -> (Vec<Cell>, Vec<Cell>) {
     let next_site = random.bits() as u32;
     let next_site = random.pick(&[0, 1, u32::MAX - 2, 0x7FFF_FFFE, 0xFFFE, next_site]);
-    let mut maker = Maker { random, shape, quads, next_site, labels: 0 };
+    let mut maker = Maker { random, shape, often, next_site, labels: 0 };
     let mut instrs: Vec<Cell> = Vec::with_capacity(shape.instrs);
     while instrs.len() < shape.instrs {
         let repeat = maker.random.chance(6);
@@ -738,8 +807,9 @@ pub fn any_image(random: &mut Random) -> Vec<u8> {
     let mut image = Vec::new();
     for _ in 0..random.pick(&[0, 1, 1, 1, 1, 2, 3, 4]) {
         let shape = any_shape(random);
-        let quads = random.pick(&[0, 20, 60]);
-        let (mut instrs, mut events) = any_function_with_quads(random, shape, quads);
+        let often =
+            Often { quads: random.pick(&[0, 20, 60]), divisions: random.pick(&[0, 0, 15, 40]) };
+        let (mut instrs, mut events) = any_function_with(random, shape, often);
         if random.chance(25) {
             spoil(random, &mut instrs, &mut events);
         }
@@ -759,8 +829,8 @@ pub fn runnable(random: &mut Random) -> Vec<u8> {
         misfits: random.pick(&[0, 0, 15]),
         one_place: random.chance(90),
     };
-    let quads = random.pick(&[0, 15, 40]);
-    let (mut instrs, events) = any_function_with_quads(random, shape, quads);
+    let often = Often { quads: random.pick(&[0, 15, 40]), divisions: random.pick(&[0, 0, 15, 40]) };
+    let (mut instrs, events) = any_function_with(random, shape, often);
     // Half of them begin again at their end.
     if random.chance(50) {
         instrs.insert(0, label(AGAIN));
@@ -904,8 +974,8 @@ fn filled_function(random: &mut Random, instrs: usize, events: Option<usize>) ->
     let sites = if events == Some(0) { 0 } else { random.pick(&[0, 10]) };
     let control = random.pick(&[0, 2, 10]);
     let shape = Shape { instrs, sites, control, actions: 10, misfits: 15, one_place: false };
-    let quads = random.pick(&[0, 30]);
-    let (instrs, mut made) = any_function_with_quads(random, shape, quads);
+    let often = Often { quads: random.pick(&[0, 30]), divisions: random.pick(&[0, 30]) };
+    let (instrs, mut made) = any_function_with(random, shape, often);
     if let Some(events) = events {
         made.truncate(events);
         made.resize(events, borrow(None));

@@ -1,11 +1,16 @@
 //! What the computed commands give: document 01's modules 1 and 2, and document 02's
-//! truth-order quads.
+//! truth-order quads and division by a float zero.
 
-use crate::cells::{self, Cell, CELL};
+use crate::cells::{self, Cell, CELL, REGISTERS};
 use crate::legacy_lowering::byte;
 
 /// The one NaN that a folded result is written as.
 pub const NAN: u64 = 0x7FF8_0000_0000_0000;
+
+pub const INFINITY: u64 = 0x7FF0_0000_0000_0000;
+
+/// The sign of an f64; alone it is -0.0.
+pub const SIGN: u64 = 1 << 63;
 
 /// A value of one of the six constant kinds, an f64 as its bits.
 #[derive(Debug, Clone, Copy, PartialEq, Eq, Hash)]
@@ -32,6 +37,16 @@ pub enum Computed {
 pub const TRUTH_ORDER: [u8; 4] =
     [byte::QTruthAnd, byte::QTruthImpl, byte::QTruthNot, byte::QTruthOr];
 
+/// Only the fuller rewrite folds this command on these values: a truth-order command on quads, or
+/// DivF64 by either zero. A command of one operand has it twice.
+pub fn fuller_only(command: u8, left: Const, right: Const) -> bool {
+    match (left, right) {
+        (Quad(_), Quad(_)) => TRUTH_ORDER.contains(&command),
+        (F64(_), F64(divisor)) => command == byte::DivF64 && is_zero(divisor),
+        _ => false,
+    }
+}
+
 /// The number of operands of a computed command that is no load.
 pub fn operands(command: u8) -> Option<usize> {
     match command {
@@ -45,6 +60,15 @@ pub fn operands(command: u8) -> Option<usize> {
         byte::CmpEq | byte::CmpNe => Some(2),
         byte::CmpI32Le | byte::CmpI32Lt | byte::CmpU32Le | byte::CmpU32Lt => Some(2),
         _ => None,
+    }
+}
+
+/// What the registers hold of a computed command's operands; a single one twice.
+pub fn operand_values<T: Copy>(cell: &Cell, registers: &[T; REGISTERS]) -> Option<(T, T)> {
+    let value = |place| registers[cells::half(cell, place) as usize];
+    match operands(cell[0])? {
+        1 => Some((value(3), value(3))),
+        _ => Some((value(3), value(5))),
     }
 }
 
@@ -81,8 +105,8 @@ pub fn compute(command: u8, left: Const, right: Const) -> Computed {
         (byte::AddF64, F64(a), F64(b)) => Some(float(a, b, |x, y| x + y)),
         (byte::SubF64, F64(a), F64(b)) => Some(float(a, b, |x, y| x - y)),
         (byte::MulF64, F64(a), F64(b)) => Some(float(a, b, |x, y| x * y)),
-        // Either zero: all bits but the sign are 0.
-        (byte::DivF64, F64(a), F64(b)) => (b << 1 != 0).then(|| float(a, b, |x, y| x / y)),
+        (byte::DivF64, F64(a), F64(b)) if is_zero(b) => Some(F64(by_zero(a, b))),
+        (byte::DivF64, F64(a), F64(b)) => Some(float(a, b, |x, y| x / y)),
 
         (byte::BoolNot, Bool(a), _) => Some(Bool(!a)),
         (byte::BoolAnd, Bool(a), Bool(b)) => Some(Bool(a & b)),
@@ -131,6 +155,22 @@ fn divide(number: i64, divisor: i64) -> Option<i64> {
 fn float(a: u64, b: u64, operation: fn(f64, f64) -> f64) -> Const {
     let result = operation(f64::from_bits(a), f64::from_bits(b));
     F64(if result.is_nan() { NAN } else { result.to_bits() })
+}
+
+/// Either zero: all bits but the sign are 0.
+fn is_zero(bits: u64) -> bool {
+    bits & !SIGN == 0
+}
+
+/// Document 02's words, on bits and without the host's division: "a nonzero number by zero is an
+/// infinity with the product of the signs, and zero or NaN by zero is NaN."
+fn by_zero(dividend: u64, zero: u64) -> u64 {
+    let is_nan = dividend & !SIGN > INFINITY;
+    if is_zero(dividend) || is_nan {
+        return NAN;
+    }
+    let product_of_signs = (dividend ^ zero) & SIGN;
+    INFINITY | product_of_signs
 }
 
 const QUAD_N: u8 = 0;

@@ -227,15 +227,17 @@ fn run(operation: Operation, image: &[u8], out: &mut [u8]) -> Rewritten {
 /// it twice.
 pub type Rules<'a> = &'a dyn Fn(u8, Const, Const) -> Option<Const>;
 
-/// The Rust's rules: the 31 commands of document 01's module 5. "QTruth commands aren't folded."
+/// The Rust's rules: the 31 commands of document 01's module 5. "Division by either zero isn't
+/// folded", and "QTruth commands aren't folded."
 pub fn default_rules(command: u8, left: Const, right: Const) -> Option<Const> {
-    if leaves::TRUTH_ORDER.contains(&command) {
+    if leaves::fuller_only(command, left, right) {
         return None;
     }
     fuller_rules(command, left, right)
 }
 
-/// The Rust's rules plus the four truth-order commands.
+/// The Rust's rules plus the four truth-order commands and division by either zero: whatever has a
+/// result when a function runs.
 pub fn fuller_rules(command: u8, left: Const, right: Const) -> Option<Const> {
     match leaves::compute(command, left, right) {
         Computed::Value(value) => Some(value),
@@ -349,9 +351,6 @@ fn crystalfold(instrs: &mut [Cell], rules: Rules) -> u32 {
 
 /// The value that a command folds to.
 fn folded(cell: &Cell, known: &[Option<Const>; cells::REGISTERS], rules: Rules) -> Option<Const> {
-    let operands = leaves::operands(cell[0])?;
-    let value = |place| known[cells::half(cell, place) as usize];
-    let left = value(3);
-    let right = if operands == 1 { left } else { value(5) };
+    let (left, right) = leaves::operand_values(cell, known)?;
     rules(cell[0], left?, right?)
 }

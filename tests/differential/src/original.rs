@@ -106,6 +106,14 @@ pub fn answers(image: &[u8]) -> Result<Answers, String> {
     Ok(Answers { sites, written: [both, cleaned, folded], possible })
 }
 
+/// What CrystalFold alone writes for an image that passes the site check.
+pub fn crystalfold(image: &[u8]) -> Result<(Vec<u8>, Success), String> {
+    let folded = written(Operation::CrystalFold, image, codec::decode(image))?;
+    let (mut bytes, success) = folded.map_err(|refusal| refusal.to_string())?;
+    write_one_nan(image, &mut bytes);
+    Ok((bytes, success))
+}
+
 type Written = Result<(Vec<u8>, Success), Refusal>;
 
 fn written(

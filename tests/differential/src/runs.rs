@@ -1,12 +1,13 @@
-//! An interpreter written from document 01, 'How a function runs', with the truth-order quads
-//! computed as document 02 has it, and the three claims on the records of a sent and a returned
-//! function.
+//! An interpreter written from document 01, 'How a function runs', with the truth-order quads and
+//! division by a float zero computed as document 02 has it, and the three claims on the records of
+//! a sent and a returned function.
 
 use crate::cells::{self, Cell, REGISTERS};
 use crate::leaves::{self, Computed, Const};
 use crate::legacy_lowering::byte;
 use crate::random::{mix, Random};
 use crate::table;
+use std::collections::BTreeSet;
 
 #[derive(Debug, Clone, Copy, PartialEq, Eq, Hash)]
 pub enum Value {
@@ -124,20 +125,12 @@ impl<'a> Run<'a> {
                 let src = (cell[1] == 1).then(|| cells::half(cell, 2));
                 self.end(Cause::Ret(src))
             }
-            command => match leaves::operands(command) {
-                Some(operands) => {
-                    let left = self.register(cell, 3);
-                    let right = if operands == 1 { left } else { self.register(cell, 5) };
-                    match (left, right) {
-                        (Value::Const(left), Value::Const(right)) => {
-                            self.compute(next, cell, left, right)
-                        }
-                        _ if command == byte::CmpEq || command == byte::CmpNe => {
-                            self.act(next, cell)
-                        }
-                        _ => self.end(Cause::UnfitOperand),
-                    }
+            command => match leaves::operand_values(cell, &self.registers) {
+                Some((Value::Const(left), Value::Const(right))) => {
+                    self.compute(next, cell, left, right)
                 }
+                Some(_) if command == byte::CmpEq || command == byte::CmpNe => self.act(next, cell),
+                Some(_) => self.end(Cause::UnfitOperand),
                 None => self.act(next, cell),
             },
         }
@@ -319,7 +312,12 @@ pub fn edges(kind: usize) -> Vec<Const> {
         0 => INTS.iter().map(|&int| Const::I32(int)).collect(),
         1 => WORDS.iter().map(|&word| Const::U32(word)).collect(),
         2 => INTS.iter().map(|&raw| Const::Fx(raw)).collect(),
-        3 => FLOATS.iter().map(|&bits| Const::F64(bits)).collect(),
+        // With both signs.
+        3 => {
+            let signs = |&bits: &u64| [bits, bits ^ leaves::SIGN];
+            let both: BTreeSet<u64> = FLOATS.iter().flat_map(signs).collect();
+            both.into_iter().map(Const::F64).collect()
+        }
         4 => vec![Const::Bool(false), Const::Bool(true)],
         _ => (0..4).map(Const::Quad).collect(),
     }

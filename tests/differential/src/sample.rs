@@ -13,10 +13,10 @@ use crate::answers::{Operation, Operations, Refusal, Success, OPERATIONS, ORIGIN
 use crate::cells::{self, Cell};
 use crate::compare;
 use crate::generate::{
-    any_function_with_quads, borrow, computed, default_commands, event, jmp, jmp_if, label,
-    load_i32, make_record, one_function, ret, store_var, write as write_event, Shape,
+    any_function_with, borrow, computed, default_commands, event, jmp, jmp_if, label, load_i32,
+    make_record, one_function, ret, store_var, write as write_event, Often, Shape,
 };
-use crate::leaves::{self, Const, TRUTH_ORDER};
+use crate::leaves::{self, Const, INFINITY, NAN, SIGN, TRUTH_ORDER};
 use crate::legacy_lowering::byte;
 use crate::random::Random;
 use crate::runs::any_const;
@@ -26,8 +26,9 @@ use std::collections::BTreeSet;
 /// How many images of the original's operations there are at least.
 const IMAGES: usize = 400;
 
-/// How many random images of the fuller rewrite there are.
-const FULLER_IMAGES: usize = 24;
+/// How many random images of the fuller rewrite there are, with quads and with divisions.
+const QUAD_IMAGES: usize = 24;
+const DIVISION_IMAGES: usize = 3;
 
 /// The numbers that the original's errors have.
 const NUMBERS: [u8; 10] = [11, 12, 13, 14, 21, 22, 23, 24, 25, 26];
@@ -46,10 +47,12 @@ struct Sample {
 #[derive(Default)]
 struct Fuller {
     cases: usize,
-    /// The truth-order commands folded, and those left.
+    /// The commands folded that only it folds, and those of their kinds that it left.
     folds: BTreeSet<u8>,
     left: BTreeSet<u8>,
-    /// The commands that the default rewrite folds, folded by what a truth-order one gave.
+    /// The zero and the quotient of each division by zero.
+    quotients: BTreeSet<(u64, u64)>,
+    /// The commands that the default rewrite folds, folded by what one of these gave.
     chains: BTreeSet<u8>,
     refusals: BTreeSet<u8>,
 }
@@ -85,13 +88,22 @@ pub fn make(seed: u64) -> Result<(Vec<u8>, String), String> {
         sample.add(&image, &[Operation::Rewrite])?;
     }
     while sample.images < IMAGES {
-        let image = small_image(&mut random, 0);
+        let image = small_image(&mut random, Often::default());
         let operation = random.pick(&ORIGINALS);
         sample.add(&image, &[Operation::Rewrite, operation])?;
     }
     // Both rewrites, one after the other.
-    let quads = (0..FULLER_IMAGES).map(|_| small_image(&mut random, 60));
+    let often = Often { quads: 60, divisions: 0 };
+    let quads = (0..QUAD_IMAGES).map(|_| small_image(&mut random, often));
     for image in truth_order().into_iter().chain(quads) {
+        sample.add(&image, &[Operation::Rewrite, Operation::Fuller])?;
+    }
+    // CrystalFold alone leaves divisions by zero too.
+    for image in divisions() {
+        sample.add(&image, &[Operation::Rewrite, Operation::CrystalFold, Operation::Fuller])?;
+    }
+    for _ in 0..DIVISION_IMAGES {
+        let image = small_image(&mut random, Often { quads: 0, divisions: 60 });
         sample.add(&image, &[Operation::Rewrite, Operation::Fuller])?;
     }
 
@@ -101,11 +113,17 @@ pub fn make(seed: u64) -> Result<(Vec<u8>, String), String> {
         return Err(format!("refusals missing in the sample: {missing:?}"));
     }
     none_missing("folds", default_commands(), &sample.folds)?;
-    let Fuller { cases, folds, left, chains, refusals } = &sample.fuller;
-    none_missing("folds by the fuller rewrite", TRUTH_ORDER, folds)?;
-    none_missing("commands that the fuller rewrite leaves", TRUTH_ORDER, left)?;
-    if chains.is_empty() || refusals.is_empty() {
-        return Err("no chain, or no refusal, of the fuller rewrite in the sample".into());
+    let Fuller { cases, folds, left, quotients, chains, refusals } = &sample.fuller;
+    none_missing("folds by the fuller rewrite", fuller_commands(), folds)?;
+    none_missing("commands that the fuller rewrite leaves", fuller_commands(), left)?;
+    none_missing("folds behind those of the fuller rewrite", CHAINED, chains)?;
+    let results = [INFINITY, SIGN | INFINITY, NAN];
+    let wanted = [0, SIGN].into_iter().flat_map(|zero| results.map(|quotient| (zero, quotient)));
+    if *quotients != wanted.collect() {
+        return Err(format!("the quotients by zero in the sample: {quotients:X?}"));
+    }
+    if refusals.is_empty() {
+        return Err("no refusal of the fuller rewrite in the sample".into());
     }
     let line = format!(
         "Answers of the original sm-ir passes, and of the model to the fuller rewrite \
@@ -114,8 +132,8 @@ pub fn make(seed: u64) -> Result<(Vec<u8>, String), String> {
     let bytes = [line.as_bytes(), &sample.cases.to_le_bytes(), &sample.bytes].concat();
     let text = format!(
         "seed {seed}: {} images, {} cases, {} bytes; refusals {:?}; {} commands folded; {} sweeps\n\
-         the fuller rewrite: {cases} cases; refusals {refusals:?}; {} truth-order commands folded, \
-         {} left; behind them {} others folded",
+         the fuller rewrite: {cases} cases; refusals {refusals:?}; {} commands folded that only it \
+         folds, {} left; {} quotients by zero; behind them {} others folded",
         sample.images,
         sample.cases,
         bytes.len(),
@@ -124,10 +142,20 @@ pub fn make(seed: u64) -> Result<(Vec<u8>, String), String> {
         sweeps().len(),
         folds.len(),
         left.len(),
+        quotients.len(),
         chains.len(),
     );
     Ok((bytes, text))
 }
+
+/// The commands of which only the fuller rewrite folds some or all.
+fn fuller_commands() -> impl Iterator<Item = u8> {
+    TRUTH_ORDER.into_iter().chain([byte::DivF64])
+}
+
+/// What must be folded behind these; on floats, behind a division by zero.
+const CHAINED: [u8; 7] =
+    [byte::QAnd, byte::QNot, byte::AddF64, byte::SubF64, byte::MulF64, byte::DivF64, byte::CmpEq];
 
 /// Fails with the names of the commands that aren't in the set.
 fn none_missing(
@@ -185,14 +213,19 @@ impl Sample {
             self.cases += 1;
         }
         // What both rewrites folded after cleanup.
-        let of = |operation| cells::cells(expected.written(operation).unwrap_or(&[])).iter();
-        let rewrites = of(Operation::Rewrite).zip(of(Operation::Fuller));
-        for (before, (default, fuller)) in of(Operation::Cleanup).zip(rewrites) {
+        let written = |operation| expected.written(operation).unwrap_or(&[]);
+        let of = |operation| cells::cells(written(operation)).iter();
+        for (before, default) in of(Operation::Cleanup).zip(of(Operation::Rewrite)) {
             if before != default {
                 self.folds.insert(before[0]);
             }
-            if operations.contains(&Operation::Fuller) {
-                self.fuller.note(default, fuller);
+        }
+        if operations.contains(&Operation::Fuller) {
+            let fuller = written(Operation::Fuller);
+            let only = compare::fuller_only_folds(written(Operation::Cleanup), fuller);
+            let rewrites = of(Operation::Rewrite).zip(of(Operation::Fuller));
+            for ((default, fuller), values) in rewrites.zip(only) {
+                self.fuller.note(default, fuller, values);
             }
         }
         self.fuller.cases += operations.contains(&Operation::Fuller) as usize;
@@ -202,15 +235,19 @@ impl Sample {
 }
 
 impl Fuller {
-    /// A cell as the default rewrite and as the fuller one returns it.
-    fn note(&mut self, default: &Cell, fuller: &Cell) {
-        let set = match (TRUTH_ORDER.contains(&default[0]), default != fuller) {
-            (true, true) => &mut self.folds,
-            (true, false) => &mut self.left,
-            (false, true) => &mut self.chains,
-            (false, false) => return,
+    /// A cell as the default rewrite and as the fuller one returns it, and the operands' values
+    /// where only the fuller one folds it.
+    fn note(&mut self, default: &Cell, fuller: &Cell, values: Option<(Const, Const)>) {
+        let set = match values {
+            Some(_) => &mut self.folds,
+            None if default != fuller => &mut self.chains,
+            None if fuller_commands().any(|command| command == default[0]) => &mut self.left,
+            None => return,
         };
         set.insert(default[0]);
+        if let Some((Const::F64(_), Const::F64(zero))) = values {
+            self.quotients.insert((zero, cells::double(fuller, 3)));
+        }
     }
 }
 
@@ -439,8 +476,117 @@ fn truth_order() -> Vec<Vec<u8>> {
     images
 }
 
-/// A small image with good sites, with quads this many of a hundred times.
-fn small_image(random: &mut Random, quads: usize) -> Vec<u8> {
+/// For both rewrites and CrystalFold: division of all sorts of floats by both zeros, operands that
+/// are unknown or of another kind, chains, other divisors, cleanup before the fold, several
+/// functions, sites and a refusal.
+fn divisions() -> Vec<Vec<u8>> {
+    let bits = |register, bits| leaves::load(register, Const::F64(bits));
+    let float = |register, number: f64| bits(register, number.to_bits());
+    let div = |dst, lhs, rhs| computed(byte::DivF64, dst, lhs, rhs);
+    let add = |dst, lhs, rhs| computed(byte::AddF64, dst, lhs, rhs);
+    let sub = |dst, lhs, rhs| computed(byte::SubF64, dst, lhs, rhs);
+    let mul = |dst, lhs, rhs| computed(byte::MulF64, dst, lhs, rhs);
+    let equal = |dst, lhs, rhs| computed(byte::CmpEq, dst, lhs, rhs);
+
+    let dividends = [
+        0x3FF0_0000_0000_0000, // 1.0
+        0xBFF8_0000_0000_0000, // -1.5
+        0x7FEF_FFFF_FFFF_FFFF, // the greatest
+        0x0000_0000_0000_0001, // the least positive
+        0x800F_FFFF_FFFF_FFFF, // the greatest subnormal, negative
+        INFINITY,
+        SIGN | INFINITY,
+        0,
+        SIGN,
+        NAN,
+        0xFFF8_0000_0000_0123, // NaNs with a payload, quiet
+        0x7FF0_0000_0000_0001, // and signalling
+    ];
+    // The zeros in registers 0 and 1, the dividends from 2 on.
+    let mut all = vec![bits(0, 0), bits(1, SIGN)];
+    all.extend((2..).zip(dividends).map(|(register, dividend)| bits(register, dividend)));
+    for dividend in 2..2 + dividends.len() as u8 {
+        all.extend([div(16 + dividend, dividend, 0), div(32 + dividend, dividend, 1)]);
+    }
+
+    let lists: [&[Cell]; 9] = [
+        &all,
+        // Zeros of other kinds, and register 9 unknown: a zero alone decides nothing.
+        &[
+            float(1, 1.0),
+            float(2, 0.0),
+            load_i32(3, 0),
+            leaves::load(4, Const::Fx(0)),
+            div(5, 1, 3),
+            div(6, 1, 4),
+            div(7, 3, 2),
+            div(8, 9, 2),
+            div(10, 1, 9),
+        ],
+        // Quotients feed other commands, and make a zero that divides again.
+        &[
+            float(1, 1.0),
+            float(2, -0.0),
+            div(3, 1, 2),
+            add(4, 3, 1),
+            sub(5, 3, 3),
+            mul(6, 3, 1),
+            div(7, 1, 3),
+            div(8, 1, 7),
+            equal(9, 3, 8),
+            equal(10, 5, 5),
+        ],
+        // The default rewrite knows the dividend, or the divisor, no more where it is dst.
+        &[float(1, 1.0), float(2, 0.0), div(1, 1, 2), add(3, 1, 1), sub(1, 2, 2), add(4, 1, 2)],
+        &[float(1, -1.0), float(2, 0.0), div(2, 1, 2), div(3, 1, 2), div(4, 1, 3)],
+        // Nor is anything known behind a barrier.
+        &[float(1, 1.0), float(2, 0.0), div(3, 1, 2), label(1), add(4, 3, 3), div(5, 1, 2)],
+        // Cleanup comes first.
+        &[
+            jmp(1),
+            div(1, 1, 2),
+            label(1),
+            float(1, 1.0),
+            float(1, -1.0),
+            float(2, 0.0),
+            div(3, 1, 2),
+            ret(Some(3)),
+            div(4, 1, 2),
+        ],
+        // What it folds to isn't cleaned again.
+        &[float(1, 1.0), float(2, 0.0), div(1, 1, 2), div(1, 1, 2)],
+        // By NaN, infinity and subnormal numbers both rewrites fold.
+        &[
+            float(1, 1.0),
+            bits(2, NAN),
+            float(3, f64::INFINITY),
+            bits(4, 1),
+            bits(5, 0x800F_FFFF_FFFF_FFFF),
+            div(6, 1, 2),
+            div(7, 1, 3),
+            div(8, 1, 4),
+            div(9, 1, 5),
+        ],
+    ];
+    let mut images: Vec<Vec<u8>> = lists.into_iter().map(|list| one_function(list, &[])).collect();
+
+    // No register is known in a later function; sites and their events stay.
+    let known = [float(1, -1.0), float(2, -0.0), div(3, 1, 2)];
+    let [one, zero, quotient] = known;
+    let mut two = one_function(&known, &[]);
+    let stored = [one, zero, quotient, store_var(3, Some(5), Some(6)), add(4, 3, 1), ret(Some(4))];
+    cells::push_function(&mut two, 8, &[quotient], &[]);
+    cells::push_function(&mut two, 9, &stored, &[borrow(Some(5)), write_event(6)]);
+    images.push(two);
+
+    let mut refused = one_function(&known, &[]);
+    cells::push_function(&mut refused, 8, &[one, zero, quotient, make_record(3, Some(6))], &[]);
+    images.push(refused);
+    images
+}
+
+/// A small image with good sites, with some commands often.
+fn small_image(random: &mut Random, often: Often) -> Vec<u8> {
     let mut image = Vec::new();
     for _ in 0..random.range(1, 2) {
         let shape = Shape {
@@ -451,7 +597,7 @@ fn small_image(random: &mut Random, quads: usize) -> Vec<u8> {
             misfits: 15,
             one_place: random.chance(50),
         };
-        let (instrs, events) = any_function_with_quads(random, shape, quads);
+        let (instrs, events) = any_function_with(random, shape, often);
         cells::push_function(&mut image, random.bits() as u16, &instrs, &events);
     }
     image

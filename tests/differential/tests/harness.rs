@@ -10,7 +10,7 @@ use differential::generate::{
     borrow, computed, computed_commands, default_commands, jmp, label, load_i32, make_record,
     one_function, ret, store_var, write,
 };
-use differential::leaves::{self, Computed, Const, TRUTH_ORDER};
+use differential::leaves::{self, Computed, Const, INFINITY, NAN, SIGN, TRUTH_ORDER};
 use differential::legacy_lowering::byte;
 use differential::model::{self, Model};
 use differential::{original, program, sample, table};
@@ -60,9 +60,28 @@ enum Fault {
     FullerRefusesInBytes,
     FullerClearsTheRest,
     FullerChangedAsTheDefault,
+    // Division by a float zero.
+    DefaultDividesByZero,
+    DefaultKnowsTheQuotient,
+    CrystalFoldDividesByZero,
+    FullerLeavesDivisionByZero,
+    FullerLeavesDivisionByMinusZero,
+    FullerIgnoresTheDivisorsSign,
+    FullerIgnoresTheDividendsSign,
+    FullerZeroByZeroIsInfinite,
+    FullerNaNByZeroIsInfinite,
+    FullerInfinityByZeroIsNaN,
+    FullerSubnormalByZeroIsNaN,
+    FullerNaNHasASign,
+    FullerNaNHasAPayload,
+    FullerDividesByZeroAfterwards,
+    FullerDividesByASubnormalAsByZero,
+    FullerDividesByZeroOfAnotherKind,
+    FullerDividesAnotherKindByZero,
+    FullerDividesTheUnknownByZero,
 }
 
-const FAULTS: [Fault; 40] = [
+const FAULTS: [Fault; 58] = [
     Fault::HandsTheImageBack,
     Fault::OnlyPretendsToFold,
     Fault::CountFromNowhere,
@@ -103,10 +122,41 @@ const FAULTS: [Fault; 40] = [
     Fault::FullerRefusesInBytes,
     Fault::FullerClearsTheRest,
     Fault::FullerChangedAsTheDefault,
+    Fault::DefaultDividesByZero,
+    Fault::DefaultKnowsTheQuotient,
+    Fault::CrystalFoldDividesByZero,
+    Fault::FullerLeavesDivisionByZero,
+    Fault::FullerLeavesDivisionByMinusZero,
+    Fault::FullerIgnoresTheDivisorsSign,
+    Fault::FullerIgnoresTheDividendsSign,
+    Fault::FullerZeroByZeroIsInfinite,
+    Fault::FullerNaNByZeroIsInfinite,
+    Fault::FullerInfinityByZeroIsNaN,
+    Fault::FullerSubnormalByZeroIsNaN,
+    Fault::FullerNaNHasASign,
+    Fault::FullerNaNHasAPayload,
+    Fault::FullerDividesByZeroAfterwards,
+    Fault::FullerDividesByASubnormalAsByZero,
+    Fault::FullerDividesByZeroOfAnotherKind,
+    Fault::FullerDividesAnotherKindByZero,
+    Fault::FullerDividesTheUnknownByZero,
 ];
 
-/// Those that the original's answer to the default rewrite tells, without the model.
-const BY_THE_ORIGINAL: [Fault; 7] = [
+/// Those that the original tells, without the model.
+const BY_THE_ORIGINAL: [Fault; 20] = [
+    Fault::DefaultFoldsTruthOrder,
+    Fault::CrystalFoldFoldsTruthOrder,
+    Fault::DefaultDividesByZero,
+    Fault::DefaultKnowsTheQuotient,
+    Fault::CrystalFoldDividesByZero,
+    Fault::FullerFoldsTheFourAfterwards,
+    Fault::FullerKeepsKnowingWhatStaysWrites,
+    Fault::FullerFoldsUnfitOperands,
+    Fault::FullerDividesByZeroAfterwards,
+    Fault::FullerDividesByASubnormalAsByZero,
+    Fault::FullerDividesByZeroOfAnotherKind,
+    Fault::FullerDividesAnotherKindByZero,
+    Fault::FullerDividesTheUnknownByZero,
     Fault::FullerCountsAsTheDefault,
     Fault::FullerCountsTwice,
     Fault::FullerChangedAsTheDefault,
@@ -120,6 +170,66 @@ const BY_THE_ORIGINAL: [Fault; 7] = [
 fn written((bytes, num_rewrites): (Vec<u8>, u32), out: &mut [u8]) -> Rewritten {
     out[..bytes.len()].copy_from_slice(&bytes);
     Ok(Success { length: bytes.len(), num_rewrites, changed: num_rewrites > 0 })
+}
+
+/// The default rules, with the fuller ones for some commands.
+fn default_but(commands: &[u8]) -> impl Fn(u8, Const, Const) -> Option<Const> + '_ {
+    move |command, a, b| match commands.contains(&command) {
+        true => model::fuller_rules(command, a, b),
+        false => model::default_rules(command, a, b),
+    }
+}
+
+/// The fuller rules, with a fault in division.
+fn dividing(fault: Fault, command: u8, left: Const, right: Const) -> Option<Const> {
+    use Const::{F64, I32};
+    let value = model::fuller_rules(command, left, right);
+    if command != byte::DivF64 {
+        return value;
+    }
+    let divided_by = |divisor| model::fuller_rules(command, left, F64(divisor));
+    match (fault, left, right, value) {
+        (Fault::FullerDividesByZeroOfAnotherKind, F64(_), I32(0), _) => divided_by(0),
+        (Fault::FullerDividesAnotherKindByZero, I32(_), F64(0), _) => Some(F64(INFINITY)),
+        (Fault::FullerDividesByASubnormalAsByZero, F64(_), F64(b), _) if b & INFINITY == 0 => {
+            divided_by(b & SIGN)
+        }
+        (_, F64(a), F64(b), Some(F64(quotient))) if leaves::fuller_only(command, left, right) => {
+            by_zero(fault, a, b, quotient).map(F64)
+        }
+        _ => value,
+    }
+}
+
+/// What a fault makes of dividend, zero and quotient.
+fn by_zero(fault: Fault, dividend: u64, zero: u64, quotient: u64) -> Option<u64> {
+    let is_nan = |bits| f64::from_bits(bits).is_nan();
+    let infinity = INFINITY | (dividend ^ zero) & SIGN;
+    match fault {
+        Fault::FullerLeavesDivisionByZero => None,
+        Fault::FullerLeavesDivisionByMinusZero if zero == SIGN => None,
+        Fault::FullerIgnoresTheDivisorsSign if !is_nan(quotient) => Some(quotient ^ zero),
+        Fault::FullerIgnoresTheDividendsSign if !is_nan(quotient) => Some(INFINITY | zero),
+        Fault::FullerZeroByZeroIsInfinite if dividend & !SIGN == 0 => Some(infinity),
+        Fault::FullerNaNByZeroIsInfinite if is_nan(dividend) => Some(infinity),
+        Fault::FullerInfinityByZeroIsNaN if dividend & !SIGN == INFINITY => Some(NAN),
+        Fault::FullerSubnormalByZeroIsNaN if dividend & INFINITY == 0 => Some(NAN),
+        Fault::FullerNaNHasASign if is_nan(quotient) => Some(NAN | SIGN),
+        Fault::FullerNaNHasAPayload if is_nan(dividend) => Some(NAN | dividend),
+        _ => Some(quotient),
+    }
+}
+
+/// The fuller rewrite with some folds in a pass of their own, so that they feed no other command.
+fn folds_afterwards(image: &[u8], late: fn(u8, Const, Const) -> bool) -> (Vec<u8>, u32) {
+    let rules = |now| {
+        move |command, a, b| {
+            model::fuller_rules(command, a, b).filter(|_| late(command, a, b) == now)
+        }
+    };
+    let (bytes, one) = model::passes(image, true, Some(&rules(false)));
+    let (bytes, two) = model::passes(&bytes, false, Some(&rules(true)));
+    (bytes, one + two)
 }
 
 impl Operations for Wrong {
@@ -151,10 +261,13 @@ impl Operations for Wrong {
     }
     fn crystalfold(&self, image: &[u8], out: &mut [u8]) -> Rewritten {
         let answer = Model.crystalfold(image, out);
-        if answer.is_ok() && self.fault == Fault::CrystalFoldFoldsTruthOrder {
-            return written(model::passes(image, false, Some(&model::fuller_rules)), out);
-        }
-        answer
+        let commands: &[u8] = match self.fault {
+            Fault::CrystalFoldFoldsTruthOrder => &TRUTH_ORDER,
+            Fault::CrystalFoldDividesByZero => &[byte::DivF64],
+            _ => return answer,
+        };
+        answer?;
+        written(model::passes(image, false, Some(&default_but(commands))), out)
     }
     fn fuller(&self, image: &[u8], out: &mut [u8]) -> Rewritten {
         use model::fuller_rules;
@@ -170,7 +283,7 @@ impl Operations for Wrong {
                 .map_err(|refusal| Refusal { detail: refusal.detail * CELL as u32, ..refusal })?;
         }
         let success = answer?;
-        let (default, num_rewrites) = model::rewritten(Operation::Rewrite, image);
+        let (_, num_rewrites) = model::rewritten(Operation::Rewrite, image);
         let mut with = |rules: model::Rules| {
             out.copy_from_slice(&before);
             written(model::passes(image, true, Some(rules)), out)
@@ -211,15 +324,28 @@ impl Operations for Wrong {
                 Ok(Success { num_rewrites, ..success })
             }
             Fault::FullerFoldsTheFourAfterwards => {
-                // In a pass of its own, so that they feed no other command.
-                let (bytes, two) = model::passes(
-                    &default,
-                    false,
-                    Some(&|command, a, b| {
-                        fuller_rules(command, a, b).filter(|_| TRUTH_ORDER.contains(&command))
-                    }),
-                );
-                written((bytes, num_rewrites + two), out)
+                let late = |command, _, _| TRUTH_ORDER.contains(&command);
+                written(folds_afterwards(image, late), out)
+            }
+            Fault::FullerDividesByZeroAfterwards => {
+                let late =
+                    |command, a, b| command == byte::DivF64 && leaves::fuller_only(command, a, b);
+                written(folds_afterwards(image, late), out)
+            }
+            Fault::FullerDividesTheUnknownByZero => {
+                let mut num_rewrites = success.num_rewrites;
+                let cells = out[..success.length].as_chunks_mut::<CELL>().0;
+                for at in 1..cells.len() {
+                    // A division that stays right behind the load of its divisor.
+                    let [load, cell] = [cells[at - 1], cells[at]];
+                    let divisor = (cells::half(&cell, 5) as usize, Const::F64(0));
+                    if cell[0] == byte::DivF64 && leaves::loaded(&load) == Some(divisor) {
+                        let infinity = Const::F64(INFINITY);
+                        cells[at] = leaves::load(cells::half(&cell, 1) as usize, infinity);
+                        num_rewrites += 1;
+                    }
+                }
+                Ok(Success { num_rewrites, changed: num_rewrites > 0, ..success })
             }
             Fault::FullerKeepsKnowingWhatStaysWrites => {
                 let fuller = out[..success.length].to_vec();
@@ -255,7 +381,8 @@ impl Operations for Wrong {
             Fault::FullerChangedAsTheDefault => {
                 Ok(Success { changed: num_rewrites > 0, ..success })
             }
-            _ => Ok(success),
+            // In division, or elsewhere than in this operation.
+            fault => with(&|command, a, b| dividing(fault, command, a, b)),
         }
     }
     fn rewrite(&self, image: &[u8], out: &mut [u8]) -> Rewritten {
@@ -332,7 +459,23 @@ impl Operations for Wrong {
                 }
             }
             Fault::DefaultFoldsTruthOrder => {
-                return written(model::rewritten(Operation::Fuller, image), out);
+                return written(model::passes(image, true, Some(&default_but(&TRUTH_ORDER))), out);
+            }
+            Fault::DefaultDividesByZero => {
+                let rules = default_but(&[byte::DivF64]);
+                return written(model::passes(image, true, Some(&rules)), out);
+            }
+            Fault::DefaultKnowsTheQuotient => {
+                // It folds what comes behind a division, but not the division.
+                let rules = default_but(&[byte::DivF64]);
+                let (mut bytes, mut num_rewrites) = model::passes(image, true, Some(&rules));
+                for (cell, default) in bytes.as_chunks_mut().0.iter_mut().zip(cells::cells(out)) {
+                    if default[0] == byte::DivF64 && cell != default {
+                        *cell = *default;
+                        num_rewrites -= 1;
+                    }
+                }
+                return written((bytes, num_rewrites), out);
             }
             // Elsewhere than in this operation.
             _ => {}
@@ -350,7 +493,10 @@ fn every_wrong_program_is_found() {
         let cells = found.image.len().div_ceil(CELL);
         println!("{fault:?}: {}, {cells} cells", found.difference.what);
         assert!(cells <= 5, "{fault:?} isn't shrunk: {cells} cells");
-        let by_the_original = found.difference.what.starts_with("Fuller by the original");
+        // The default rewrite and the passes are compared with the original's.
+        let by_the_original = ["Fuller by the original", "Rewrite", "CrystalFold"]
+            .iter()
+            .any(|what| found.difference.what.starts_with(what));
         let must = BY_THE_ORIGINAL.contains(&fault);
         assert!(by_the_original || !must, "{fault:?} isn't found by the original");
     }
@@ -362,10 +508,15 @@ fn rule_sets() {
     assert_eq!(default_commands().count(), 31);
     assert_eq!(computed_commands().count(), 35);
     let value = Const::Quad(2);
-    for command in TRUTH_ORDER {
-        assert_eq!(model::default_rules(command, value, value), None);
-        assert!(model::fuller_rules(command, value, value).is_some());
+    let [one, zero, minus_zero] = [1.0, 0.0, -0.0].map(|number: f64| Const::F64(number.to_bits()));
+    let divisions = [zero, minus_zero].map(|zero| (byte::DivF64, one, zero));
+    let quads = TRUTH_ORDER.map(|command| (command, value, value));
+    for (command, a, b) in quads.into_iter().chain(divisions) {
+        assert!(leaves::fuller_only(command, a, b));
+        assert_eq!(model::default_rules(command, a, b), None);
+        assert!(model::fuller_rules(command, a, b).is_some());
     }
+    assert_eq!(model::default_rules(byte::DivF64, zero, one), Some(zero));
 }
 
 /// Document 02's four commands, worked out by hand: rows left, columns right, N F T S.
@@ -468,7 +619,7 @@ fn printed_example() {
     ];
     let written = expected.written(Operation::Rewrite).unwrap();
     assert_eq!(compare::hexadecimal(written), lines.join("\n"));
-    // None of the four is in it: both rewrites write it.
+    // Nothing that only the fuller one folds is in it: both rewrites write it.
     for operation in [Operation::Rewrite, Operation::Fuller] {
         let text = |image: &[u8]| program::text(operation, image).unwrap();
         assert_eq!(text(&image), format!("{}\nrewrites 1\n", lines.join("\n")));
@@ -532,7 +683,13 @@ fn sample_is_replayed() {
     assert_eq!(sample::make(1).unwrap().0, bytes);
     assert!(sample::replay(&bytes, &Model).unwrap() >= 300);
     let faults = FAULTS.iter().filter(|fault| format!("{fault:?}").contains("Fuller"));
-    let others = [Fault::OnlyPretendsToFold, Fault::DefaultFoldsTruthOrder];
+    let others = [
+        Fault::OnlyPretendsToFold,
+        Fault::DefaultFoldsTruthOrder,
+        Fault::DefaultDividesByZero,
+        Fault::DefaultKnowsTheQuotient,
+        Fault::CrystalFoldDividesByZero,
+    ];
     for fault in faults.chain(&others) {
         assert!(sample::replay(&bytes, &Wrong { fault: *fault }).is_err(), "{fault:?}");
     }

@@ -57,9 +57,15 @@ fn ends() {
             Cause::UnfitOperand,
             vec![0, 0, 0, 1, 1],
         ),
+        // By a float zero there is a result, and the run goes on.
         (
-            vec![float(1, 0), float(2, 1 << 63), computed(byte::DivF64, 3, 1, 2)],
-            Cause::NoResult,
+            vec![float(1, 0), float(2, 1 << 63), computed(byte::DivF64, 3, 1, 2), ret(Some(3))],
+            Cause::Ret(Some(3)),
+            vec![0, 0, 0, 0, 1],
+        ),
+        (
+            vec![float(1, 0), bool, computed(byte::DivF64, 3, 2, 1), ret(Some(3))],
+            Cause::UnfitOperand,
             vec![0, 0, 0, 1, 1],
         ),
         // A truth-order command is computed: no entry but the end's.
