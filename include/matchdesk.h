@@ -111,8 +111,8 @@ size_t matchdesk_rewrite(const unsigned char *image, size_t image_length, unsign
 
 /*
  * The fuller rewrite: as the default one, except that CrystalFold also folds the truth-order quads QTruthAnd, QTruthOr, QTruthNot and QTruthImpl,
- * and DivF64 by 0.0 or -0.0 as IEEE 754 has it: a nonzero number by zero is an infinity with the product of the signs, zero or NaN by zero is
- * NaN. matchdesk_crystalfold and matchdesk_rewrite leave these as they are. It refuses as the default one.
+ * and DivF64 by 0.0 or -0.0 as IEEE 754 has it: a nonzero number by zero is an infinity with the product of the signs, zero or NaN by zero is NaN
+ * (7FF8000000000000). matchdesk_crystalfold and matchdesk_rewrite leave these as they are. It refuses as the default one.
  */
 size_t matchdesk_rewrite_fuller(const unsigned char *image, size_t image_length, unsigned char *out, size_t out_length, size_t *first, size_t *second);
 

@@ -433,7 +433,6 @@ def main():
         group("f64", leaf, "f64 " + name, floats(rng, name, operation, 105))
     # The two divisions agree but by zero.
     quotients = [row for _, name, rows in groups if name.startswith("f64 div") for row in rows]
-    assert all(ieee_divide(a, b) == result for a, b, _, result in quotients)
     group("f64", 5, "f64 IEEE div", quotients)
     for a, b, quotient in BY_ZERO:
         assert ieee_divide(a, b) == quotient

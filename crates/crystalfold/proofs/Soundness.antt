@@ -94,7 +94,8 @@ f64-under f g h (I32 x) r v e = e
 f64-under f g h (U32 x) r v e = e
 f64-under f g h (Fx x) r v e = e
 
--- the default table under rules that have IEEE 754's division and else its own rows: where its DivF64 has a value, theirs has the same
+-- the default table, whose second row is DivF64's, under rules that have IEEE 754's division and else its own rows: where its DivF64 has a value,
+-- theirs has the same
 default-rows : (g : Rules) → Own g (take 1 defaultTable) → g 0x25 ≡ some (twoF64 ieeeDivF64) → Own g (drop 2 defaultTable) → Rows g defaultTable
 unfolding defaultTable
 default-rows g x h y = own-rows g (take 1 defaultTable) (drop 1 defaultTable) x (

@@ -83,7 +83,7 @@ fn fold_f64(rules: RuleSet, op: u8, left: ConstVal, right: ConstVal) -> Verdict
     };
     match op {
         0x11 => float::add_f64(a, b),
-        0x25 => divide_f64(rules, a, b),
+        0x25 => div_f64_by(rules, a, b),
         0x3A => float::mul_f64(a, b),
         0x4E => float::sub_f64(a, b),
         _ => Verdict::NotComputed,
@@ -91,7 +91,7 @@ fn fold_f64(rules: RuleSet, op: u8, left: ConstVal, right: ConstVal) -> Verdict
 }
 
 // DivF64: by zero only the fuller rules fold it.
-fn divide_f64(rules: RuleSet, a: f64, b: f64) -> Verdict
+fn div_f64_by(rules: RuleSet, a: f64, b: f64) -> Verdict
     ensures { λ r. ⌜ r ≡ divisionOf rules a b ⌝ }
 {
     match rules {

@@ -1,9 +1,9 @@
 -- Laws that show the definitions of specs/ to be the right ones.
-use mathlib.Core.Path.{_≡_, refl, sym, _∙_, ap, subst}
-use mathlib.Core.Logic.{⊎-elim}
+use mathlib.Core.Path.{_≡_, refl, sym, _∙_, ap, subst, subst⁻¹}
+use mathlib.Core.Logic.{_⊎_, inl, inr, ⊎-elim}
 use mathlib.Core.Bool.{Bool, true, false, not, cond}
 use Prim.Native.Nat.{ℕ, zero, suc, _+_, _-_, _*_, _/_, _%_, _^_, _≤_, _<_}
-use native.Mathlib.Nat.{div-add-mod', mod-lt, mul-pos, zero-lt-suc}
+use native.Mathlib.Nat.{div-add-mod', mod-lt, mul-pos, zero-lt-suc, zero-mul, zero-div}
 use native.Mathlib.Omega.{arith}
 use lib.IntN.{ℤ, pos, negsuc, negℤ, natAbs, _+ℤ_, _-ℤ_, _*ℤ_}
 use lib.Signed.{leZ, ltZ, quotZ, remZ}
@@ -28,7 +28,7 @@ use Rattle.leaves.specs.Float.{floatOf, bitsOf, zeroFloat, ieeeDivF64, d
 use Rattle.leaves.proofs.Integers.{less-or-not, sub-pos, sub-neg}
 use Rattle.leaves.proofs.Division as Division
 use Rattle.leaves.proofs.Division.{in-range-but-one}
-use Rattle.leaves.proofs.Floats.{above, back}
+use Rattle.leaves.proofs.Floats.{above, back, forth}
 
 -- ---- I32: wrap z is the one i32 that is congruent to z modulo 2^32
 
@@ -261,15 +261,15 @@ divided-by-zero (fin r n d) (fin s m e) t = rw (no-digits s m e t) (flipped (eqb
 
 -- sign by sign: of like signs infinity, of unlike ones -infinity; of zero or NaN, NaN
 pub record BySigns (x z : Float) : Type 0 where
-  pub like : nonzero x ≡ true → negative x ≡ negative z → ieeeDivF64 x z ≡ Value (F64 (inf false))
-  pub not-like : nonzero x ≡ true → negative x ≡ not (negative z) → ieeeDivF64 x z ≡ Value (F64 (inf true))
-  pub no-number : nonzero x ≡ false → ieeeDivF64 x z ≡ Value (F64 nan)
+  pub like-signs : nonzero x ≡ true → negative x ≡ negative z → ieeeDivF64 x z ≡ Value (F64 (inf false))
+  pub unlike-signs : nonzero x ≡ true → negative x ≡ not (negative z) → ieeeDivF64 x z ≡ Value (F64 (inf true))
+  pub zero-or-nan : nonzero x ≡ false → ieeeDivF64 x z ≡ Value (F64 nan)
 
 pub by-signs : (x z : Float) → Ieee.eq z zeroFloat ≡ true → BySigns x z
 by-signs x z t = record {
-  like = λ n s. comes (rw (n, s) (ap inf (alike (negative z))));
-  not-like = λ n s. comes (rw (n, s) (ap inf (opposed (negative z))));
-  no-number = λ n. comes (rw n);
+  like-signs = λ n s. comes (rw (n, s) (ap inf (alike (negative z))));
+  unlike-signs = λ n s. comes (rw (n, s) (ap inf (opposed (negative z))));
+  zero-or-nan = λ n. comes (rw n);
 }
   where
     comes : {q : Float} → byZero x z ≡ q → ieeeDivF64 x z ≡ Value (F64 q)
@@ -282,6 +282,35 @@ by-signs x z t = record {
     opposed : (s : Bool) → unlike (not s) s ≡ true
     opposed true = refl
     opposed false = refl
+
+-- a zero is written as 0 or as 8000000000000000, and no other pattern is read as one
+zero-written : (s : Bool) (e : ℤ) → bitsOf (fin s 0 e) ≡ cond s 0x8000_0000_0000_0000 0
+unfolding bitsOf Ieee.toBits Ieee.size Ieee.climb Ieee.span
+zero-written s e = ap (λ (n : ℕ). cond s (Ieee.top binary64) 0 + (Ieee.size n - 53) * Ieee.hid binary64 + n / 2 ^ (Ieee.size n - 53)) none ∙ sums s
+  where
+    none : 0 * up e * 2 ^ Ieee.low binary64 / down e ≡ 0
+    none = ap (λ (n : ℕ). n * 2 ^ Ieee.low binary64 / down e) (zero-mul (up e)) ∙ zero-div (down e)
+
+    sums : (s : Bool) → cond s (Ieee.top binary64) 0 + 0 + 0 ≡ cond s 0x8000_0000_0000_0000 0
+    sums true = refl
+    sums false = refl
+
+pub zero-bits : (n : ℕ) → n < 2 ^ 64 → Ieee.eq (floatOf n) zeroFloat ≡ true → (n ≡ 0) ⊎ (n ≡ 0x8000_0000_0000_0000)
+unfolding Ieee.eq Ieee.isNan
+zero-bits n h t = go (floatOf n) refl t
+  where
+    either : (s : Bool) → n ≡ cond s 0x8000_0000_0000_0000 0 → (n ≡ 0) ⊎ (n ≡ 0x8000_0000_0000_0000)
+    either true e = inr e
+    either false e = inl e
+
+    go : (x : Float) → floatOf n ≡ x → Ieee.eq x zeroFloat ≡ true → (n ≡ 0) ⊎ (n ≡ 0x8000_0000_0000_0000)
+    go nan y z = absurd (subst Dec.T (sym z) tt)
+    go (inf s) y z = absurd (subst Dec.T (sym z) tt)
+    go (fin s m e) y z = either s (
+        sym (forth n h (subst⁻¹ (λ (x : Float). Dec.T (not (Ieee.isNan x))) y tt))
+        ∙ ap bitsOf (y ∙ ap (λ (k : ℕ). fin s k e) (eqb-true m 0 (no-digits s m e z)))
+        ∙ zero-written s e
+        )
 
 -- the Rust's division declines a zero, and by any other divisor gives what IEEE 754's does; so whatever value it has is IEEE 754's
 pub declined-zero : (a b : Float) → Ieee.eq b zeroFloat ≡ true → divF64 a b ≡ NoResult

@@ -158,44 +158,44 @@ pub record ByZeros : Type 0 where
   pub byMinus : ℕ
 
 -- a dividend and its quotients by 0.0 and by -0.0, in bits
-abbrev pub over : ℕ → ℕ → ℕ → ByZeros
-over x p m = record { dividend = x; byPlus = p; byMinus = m }
+abbrev pub quotients : ℕ → ℕ → ℕ → ByZeros
+quotients x p m = record { dividend = x; byPlus = p; byMinus = m }
 
 -- 7FF0000000000000 is infinity, FFF0000000000000 -infinity
 abbrev pub byZeros : List ByZeros
 byZeros =
     -- "a nonzero number by zero is an infinity with the product of the signs": 1.0 and -1.0
-    over 0x3FF0_0000_0000_0000 0x7FF0_0000_0000_0000 0xFFF0_0000_0000_0000
-    ∷ over 0xBFF0_0000_0000_0000 0xFFF0_0000_0000_0000 0x7FF0_0000_0000_0000
+    quotients 0x3FF0_0000_0000_0000 0x7FF0_0000_0000_0000 0xFFF0_0000_0000_0000
+    ∷ quotients 0xBFF0_0000_0000_0000 0xFFF0_0000_0000_0000 0x7FF0_0000_0000_0000
     -- the least subnormal number and its negative; the greatest
-    ∷ over 0x0000_0000_0000_0001 0x7FF0_0000_0000_0000 0xFFF0_0000_0000_0000
-    ∷ over 0x8000_0000_0000_0001 0xFFF0_0000_0000_0000 0x7FF0_0000_0000_0000
-    ∷ over 0x000F_FFFF_FFFF_FFFF 0x7FF0_0000_0000_0000 0xFFF0_0000_0000_0000
+    ∷ quotients 0x0000_0000_0000_0001 0x7FF0_0000_0000_0000 0xFFF0_0000_0000_0000
+    ∷ quotients 0x8000_0000_0000_0001 0xFFF0_0000_0000_0000 0x7FF0_0000_0000_0000
+    ∷ quotients 0x000F_FFFF_FFFF_FFFF 0x7FF0_0000_0000_0000 0xFFF0_0000_0000_0000
     -- the greatest finite number and its negative
-    ∷ over 0x7FEF_FFFF_FFFF_FFFF 0x7FF0_0000_0000_0000 0xFFF0_0000_0000_0000
-    ∷ over 0xFFEF_FFFF_FFFF_FFFF 0xFFF0_0000_0000_0000 0x7FF0_0000_0000_0000
+    ∷ quotients 0x7FEF_FFFF_FFFF_FFFF 0x7FF0_0000_0000_0000 0xFFF0_0000_0000_0000
+    ∷ quotients 0xFFEF_FFFF_FFFF_FFFF 0xFFF0_0000_0000_0000 0x7FF0_0000_0000_0000
     -- the infinities
-    ∷ over 0x7FF0_0000_0000_0000 0x7FF0_0000_0000_0000 0xFFF0_0000_0000_0000
-    ∷ over 0xFFF0_0000_0000_0000 0xFFF0_0000_0000_0000 0x7FF0_0000_0000_0000
+    ∷ quotients 0x7FF0_0000_0000_0000 0x7FF0_0000_0000_0000 0xFFF0_0000_0000_0000
+    ∷ quotients 0xFFF0_0000_0000_0000 0xFFF0_0000_0000_0000 0x7FF0_0000_0000_0000
     -- "zero or NaN by zero is NaN", "with the same NaN bits as other operations": 0.0 and -0.0; NaN's of either sign, quiet and signalling
-    ∷ over 0x0000_0000_0000_0000 0x7FF8_0000_0000_0000 0x7FF8_0000_0000_0000
-    ∷ over 0x8000_0000_0000_0000 0x7FF8_0000_0000_0000 0x7FF8_0000_0000_0000
-    ∷ over 0x7FF8_0000_0000_0000 0x7FF8_0000_0000_0000 0x7FF8_0000_0000_0000
-    ∷ over 0xFFF8_0000_0000_0123 0x7FF8_0000_0000_0000 0x7FF8_0000_0000_0000
-    ∷ over 0x7FF0_0000_0000_0001 0x7FF8_0000_0000_0000 0x7FF8_0000_0000_0000
+    ∷ quotients 0x0000_0000_0000_0000 0x7FF8_0000_0000_0000 0x7FF8_0000_0000_0000
+    ∷ quotients 0x8000_0000_0000_0000 0x7FF8_0000_0000_0000 0x7FF8_0000_0000_0000
+    ∷ quotients 0x7FF8_0000_0000_0000 0x7FF8_0000_0000_0000 0x7FF8_0000_0000_0000
+    ∷ quotients 0xFFF8_0000_0000_0123 0x7FF8_0000_0000_0000 0x7FF8_0000_0000_0000
+    ∷ quotients 0x7FF0_0000_0000_0001 0x7FF8_0000_0000_0000 0x7FF8_0000_0000_0000
     ∷ []
 
 -- a division's quotients of a dividend by 0.0 and by -0.0, as they are written, if there are any
-abbrev pub overZeros : (Float → Float → Verdict) → ByZeros → List (Option ℕ)
-overZeros f r = written (f (floatOf (r .dividend)) (floatOf 0)) ∷ written (f (floatOf (r .dividend)) (floatOf 0x8000_0000_0000_0000)) ∷ []
+abbrev pub byBoth : (Float → Float → Verdict) → ByZeros → List (Option ℕ)
+byBoth f r = written (f (floatOf (r .dividend)) (floatOf 0)) ∷ written (f (floatOf (r .dividend)) (floatOf 0x8000_0000_0000_0000)) ∷ []
   where
     written : Verdict → Option ℕ
     written v = onF64 (valueIn v) (λ (x : Float). some (bitsOf x)) none
 
 -- IEEE 754's division, and document 02's words; the Rust's, which has none
 pub by-zeros-hold :
-    (map (overZeros ieeeDivF64) byZeros ≡ map (λ (r : ByZeros). some (r .byPlus) ∷ some (r .byMinus) ∷ []) byZeros)
-    × (map (overZeros (λ (x z : Float). Value (F64 (byZero x z)))) byZeros ≡ map (λ (r : ByZeros). some (r .byPlus) ∷ some (r .byMinus) ∷ []) byZeros)
-    × (map (overZeros divF64) byZeros ≡ map (λ (r : ByZeros). none ∷ none ∷ []) byZeros)
+    (map (byBoth ieeeDivF64) byZeros ≡ map (λ (r : ByZeros). some (r .byPlus) ∷ some (r .byMinus) ∷ []) byZeros)
+    × (map (byBoth (λ (x z : Float). Value (F64 (byZero x z)))) byZeros ≡ map (λ (r : ByZeros). some (r .byPlus) ∷ some (r .byMinus) ∷ []) byZeros)
+    × (map (byBoth divF64) byZeros ≡ map (λ (r : ByZeros). none ∷ none ∷ []) byZeros)
 unfolding floatOf bitsOf divF64 Ieee.eq Ieee.div Ieee.ofBits Ieee.toBits
 by-zeros-hold = (refl, refl, refl)

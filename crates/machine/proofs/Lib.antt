@@ -1,3 +1,4 @@
+pub mod ByZero
 pub mod Growth
 pub mod Simulation
 pub mod Jumps

@@ -273,14 +273,16 @@ runs =
     ∷ computes 0x25 (f64 0x7FF0000000000000) (f64 0) (f64 0x7FF0000000000000)
     ∷ computes 0x25 (f64 0xFFF0000000000000) (f64 0) (f64 0xFFF0000000000000)
     ∷ computes 0x25 (f64 0x7FF0000000000000) (f64 0x8000000000000000) (f64 0xFFF0000000000000)
+    ∷ computes 0x25 (f64 0xFFF0000000000000) (f64 0x8000000000000000) (f64 0x7FF0000000000000)
     ∷ computes 0x25 (f64 1) (f64 0x8000000000000000) (f64 0xFFF0000000000000)
     -- zero or NaN by zero: NaN
     ∷ computes 0x25 (f64 0) (f64 0) (f64 0x7FF8000000000000)
     ∷ computes 0x25 (f64 0x8000000000000000) (f64 0) (f64 0x7FF8000000000000)
     ∷ computes 0x25 (f64 0) (f64 0x8000000000000000) (f64 0x7FF8000000000000)
+    ∷ computes 0x25 (f64 0x8000000000000000) (f64 0x8000000000000000) (f64 0x7FF8000000000000)
     ∷ computes 0x25 (f64 0xFFF8000000000123) (f64 0) (f64 0x7FF8000000000000)
     ∷ computes 0x25 (f64 0x7FF0000000000001) (f64 0x8000000000000000) (f64 0x7FF8000000000000)
-    -- by a zero of another kind it ends the run
+    -- a zero, or a dividend, of another kind ends the run
     ∷ fails 0x25 (f64 0x3FF0000000000000) (i32 0) unfitOperand
     ∷ fails 0x25 (u32 0) (f64 0) unfitOperand
     -- no result

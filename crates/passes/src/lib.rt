@@ -59,7 +59,7 @@ pub fn run_default_opt_passes(image: &[u8], out: &mut [u8]) -> Rewrite
     run_opt_passes(RuleSet::Default, image, out)
 }
 
-// The whole rewrite with the fuller rules: the Rust's, and the truth-order quads.
+// The whole rewrite with the fuller rules: the Rust's, the truth-order quads, and division of an f64 by zero.
 pub fn run_fuller_opt_passes(image: &[u8], out: &mut [u8]) -> Rewrite
     ensures { λ r. ⌜ RewriteDone RuleSet.Fuller (now (image .entry)) (now (out .entry)) (now (out .exit)) r ⌝ }
 {

@@ -162,7 +162,7 @@ truth-hold = refl
 
 -- ---- division of an f64 by zero: "The fuller rewrite folds these divisions and the default one still leaves them"
 
--- f64's by their bits: 1.0, -1.0, -0.0 (0.0 is 0), infinity and -infinity, NaN as it is computed
+-- f64 values by their bits: 1.0, -1.0, -0.0 (0.0 is 0), infinity and -infinity, NaN as it is computed
 abbrev pub one : ℕ
 one = 0x3FF0000000000000
 
@@ -246,12 +246,14 @@ divisions =
     ∷ by infinity 0 infinity
     ∷ by minusInfinity 0 minusInfinity
     ∷ by infinity minusZero minusInfinity
+    ∷ by minusInfinity minusZero infinity
     -- the least subnormal number
     ∷ by 1 minusZero minusInfinity
     -- zero or NaN: NaN
     ∷ by 0 0 computedNan
     ∷ by minusZero 0 computedNan
     ∷ by 0 minusZero computedNan
+    ∷ by minusZero minusZero computedNan
     ∷ by computedNan 0 computedNan
     ∷ by 0xFFF8000000000123 minusZero computedNan
     ∷ []

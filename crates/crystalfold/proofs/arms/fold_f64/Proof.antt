@@ -37,7 +37,7 @@ fold-f64-spec =
     (λ c κs. search needs)
     (λ c κs. search needs)
     (λ c. comes-to (c .before .before) (c .before .match3 .keys1) (c .add-f64 .ensures))
-    (λ c. comes-to (c .before .before) (c .before .match3 .keys2) (c .divide-f64 .ensures))
+    (λ c. comes-to (c .before .before) (c .before .match3 .keys2) (c .div-f64-by .ensures))
     (λ c. comes-to (c .before .before) (c .before .match3 .keys3) (c .mul-f64 .ensures))
     (λ c. comes-to (c .before .before) (c .before .match3 .keys4) (c .sub-f64 .ensures))
     (λ c. comes-to (c .before) refl (no-leaf (f64Leaves (c .before .before .before .before .before .before .before .args .rules)) _ _ _ (c .match3 .rest) refl)))

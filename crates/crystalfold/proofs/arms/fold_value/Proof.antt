@@ -1,5 +1,5 @@
 -- `arms::fold_value` meets its contract: an arm for each command that every rule set has, in the default table's order, then for each that only the
--- fuller rules have. DivF64 has a meaning in each.
+-- fuller rules have. DivF64 has a meaning of its own in each.
 use mathlib.Core.Path.{_≡_, refl, _∙_}
 use mathlib.Core.Option.{Option, none, some}
 use mathlib.Core.List.{List, [], _∷_, _++_, map}

@@ -1,10 +1,10 @@
--- `arms::divide_f64` meets its contract, rule set by rule set.
+-- `arms::div_f64_by` meets its contract, rule set by rule set.
 use borrow.Author.Needs.{needs}
-use Rattle.crystalfold.proofs.arms.divide_f64.Statement.{statement}
-use Rattle.crystalfold.proofs.arms.divide_f64.Tie as tie
+use Rattle.crystalfold.proofs.arms.div_f64_by.Statement.{statement}
+use Rattle.crystalfold.proofs.arms.div_f64_by.Tie as tie
 
-pub divide-f64-spec : {M : Type 1} → statement M
-divide-f64-spec =
+pub div-f64-by-spec : {M : Type 1} → statement M
+div-f64-by-spec =
     tie.close
     (tie.spec
     (λ c. search needs)
