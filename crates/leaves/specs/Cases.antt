@@ -177,7 +177,7 @@ byZeros =
     -- the infinities
     ∷ quotients 0x7FF0_0000_0000_0000 0x7FF0_0000_0000_0000 0xFFF0_0000_0000_0000
     ∷ quotients 0xFFF0_0000_0000_0000 0xFFF0_0000_0000_0000 0x7FF0_0000_0000_0000
-    -- "zero or NaN by zero is NaN", "with the same NaN bits as other operations": 0.0 and -0.0; NaN's of either sign, quiet and signalling
+    -- "zero or NaN by zero is NaN", "with the same NaN bits as other operations": 0.0 and -0.0; NaNs of either sign, quiet and signalling
     ∷ quotients 0x0000_0000_0000_0000 0x7FF8_0000_0000_0000 0x7FF8_0000_0000_0000
     ∷ quotients 0x8000_0000_0000_0000 0x7FF8_0000_0000_0000 0x7FF8_0000_0000_0000
     ∷ quotients 0x7FF8_0000_0000_0000 0x7FF8_0000_0000_0000 0x7FF8_0000_0000_0000
