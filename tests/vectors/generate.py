@@ -4,7 +4,7 @@
 Expected values come from exact arithmetic. A binary64 operand is decoded to a fraction, the operation is done on
 fractions.Fraction, and the result is rounded once to nearest, ties to even, by `encode` below. Python's own float
 arithmetic isn't used. I32, U32 and Fx values are Python integers; quads follow from Belnap's two orders alone.
-The seed is fixed: two runs write the same files.
+A number leaf without a value has one of document 02's reasons (W5). The seeds are fixed: two runs write the same files.
 """
 import os
 import random
@@ -13,6 +13,11 @@ from fractions import Fraction
 
 ROOT = os.path.join(os.path.dirname(os.path.abspath(__file__)), "..", "..")
 CASES = os.path.join(ROOT, "crates", "cases_leaves")
+
+# Why a number leaf has no value (document 02, W5); and what stands for no quad.
+ZERO = "divisor zero"
+RANGE = "out of range"
+NONE = "none"
 
 # ---- binary64: 1 sign bit, 11 exponent bits, 52 fraction bits
 
@@ -92,8 +97,8 @@ def multiply(a, b):
 
 
 def divide(a, b):
-    """The Rust's division: none for a divisor of either zero (document 01, module 1)."""
-    return None if is_zero(b) else ieee_divide(a, b)
+    """The Rust's division: it declines a divisor of either zero (document 01, module 1), by that name (document 02, W5)."""
+    return ZERO if is_zero(b) else ieee_divide(a, b)
 
 
 def ieee_divide(a, b):
@@ -245,9 +250,9 @@ def floats(rng, name, operation, count):
     rows, seen = [], set()
 
     def keep(a, b):
-        if (a, b) not in seen and operation(a, b) is not None:
+        if (a, b) not in seen and operation(a, b) != ZERO:
             seen.add((a, b))
-            rows.append((a, b, 1, operation(a, b)))
+            rows.append((a, b, operation(a, b)))
 
     while len(rows) < 50:
         keep(rng.choice(EDGES), rng.choice(EDGES))
@@ -270,11 +275,11 @@ def wrapped(n):
 
 
 def in_i32(n):
-    return n if -(1 << 31) <= n < 1 << 31 else None
+    return n if -(1 << 31) <= n < 1 << 31 else RANGE
 
 
 def in_u32(n):
-    return n if 0 <= n < 1 << 32 else None
+    return n if 0 <= n < 1 << 32 else RANGE
 
 
 def truncated(a, b):
@@ -283,11 +288,13 @@ def truncated(a, b):
 
 
 def divided(a, b):
-    return None if b == 0 else in_i32(truncated(a, b))
+    return ZERO if b == 0 else in_i32(truncated(a, b))
 
 
 def remainder(a, b):
-    return None if divided(a, b) is None else a - b * truncated(a, b)
+    """It is missing where the quotient is, and for the same reason."""
+    quotient = divided(a, b)
+    return quotient if quotient in (ZERO, RANGE) else a - b * quotient
 
 
 I32 = [
@@ -303,8 +310,8 @@ U32 = [
     ("add", lambda a, b: in_u32(a + b)),
     ("sub", lambda a, b: in_u32(a - b)),
     ("mul", lambda a, b: in_u32(a * b)),
-    ("div", lambda a, b: a // b if b else None),
-    ("mod", lambda a, b: a % b if b else None),
+    ("div", lambda a, b: a // b if b else ZERO),
+    ("mod", lambda a, b: a % b if b else ZERO),
     ("lt", lambda a, b: int(a < b)),
     ("le", lambda a, b: int(a <= b)),
 ]
@@ -312,7 +319,7 @@ FX = [
     ("add", lambda a, b: in_i32(a + b)),
     ("sub", lambda a, b: in_i32(a - b)),
     ("mul", lambda a, b: in_i32(truncated(a * b, 1000))),
-    ("div", lambda a, b: in_i32(truncated(a * 1000, b)) if b else None),
+    ("div", lambda a, b: in_i32(truncated(a * 1000, b)) if b else ZERO),
 ]
 
 # Document 01's starred cases: kind, operation, operands, result.
@@ -320,24 +327,96 @@ STARRED = [
     (I32, "add", 2147483647, 1, -2147483648),
     (I32, "div", -7, 2, -3),
     (I32, "mod", -7, 2, -1),
-    (I32, "div", -2147483648, -1, None),
-    (U32, "sub", 0, 1, None),
+    (I32, "div", -2147483648, -1, RANGE),
+    (U32, "sub", 0, 1, RANGE),
     (FX, "mul", 1500, 1500, 2250),
     (FX, "mul", -1, 1, 0),
     (FX, "mul", 2147483647, 1000, 2147483647),
-    (FX, "mul", 2147483647, 1001, None),
+    (FX, "mul", 2147483647, 1001, RANGE),
+]
+
+MOST, LEAST_I32, MOST_U32 = 2147483647, -2147483648, 4294967295
+
+# Document 02's reasons (W5), written out by hand: each leaf on either side of its edges, and where both reasons hold.
+REASONS = [
+    (I32, "add", MOST, 1, LEAST_I32),
+    (I32, "sub", LEAST_I32, 1, MOST),
+    (I32, "mul", LEAST_I32, -1, LEAST_I32),
+    (I32, "div", 7, 0, ZERO),
+    (I32, "div", LEAST_I32, 0, ZERO),
+    (I32, "div", LEAST_I32, 1, LEAST_I32),
+    (I32, "div", LEAST_I32 + 1, -1, MOST),
+    (I32, "mod", 7, 0, ZERO),
+    (I32, "mod", LEAST_I32, 0, ZERO),
+    (I32, "mod", LEAST_I32, -1, RANGE),
+    (I32, "mod", LEAST_I32, 1, 0),
+    (I32, "mod", LEAST_I32 + 1, -1, 0),
+    (U32, "add", MOST_U32 - 1, 1, MOST_U32),
+    (U32, "add", MOST_U32, 1, RANGE),
+    (U32, "sub", 7, 7, 0),
+    (U32, "sub", 7, 8, RANGE),
+    (U32, "mul", 65535, 65537, MOST_U32),
+    (U32, "mul", 65536, 65536, RANGE),
+    (U32, "div", MOST_U32, 0, ZERO),
+    (U32, "div", MOST_U32, 1, MOST_U32),
+    (U32, "mod", MOST_U32, 0, ZERO),
+    (U32, "mod", MOST_U32, MOST_U32, 0),
+    (FX, "add", MOST - 1, 1, MOST),
+    (FX, "add", MOST, 1, RANGE),
+    (FX, "add", LEAST_I32 + 1, -1, LEAST_I32),
+    (FX, "add", LEAST_I32, -1, RANGE),
+    (FX, "sub", -1, MOST, LEAST_I32),
+    (FX, "sub", -2, MOST, RANGE),
+    (FX, "sub", -1, LEAST_I32, MOST),
+    (FX, "sub", 0, LEAST_I32, RANGE),
+    # 2,147,483,647,999 and -2,147,483,648,999 thousandths of thousandths are the last products in range
+    (FX, "mul", 66431, 32326529, MOST),
+    (FX, "mul", 1073741824, 2000, RANGE),
+    (FX, "mul", 3263, -658131673, LEAST_I32),
+    (FX, "mul", 715827883, -3000, RANGE),
+    (FX, "mul", LEAST_I32, -1000, RANGE),
+    (FX, "div", 7, 0, ZERO),
+    (FX, "div", MOST, 0, ZERO),
+    (FX, "div", LEAST_I32, 0, ZERO),
+    (FX, "div", MOST, 1000, MOST),
+    (FX, "div", MOST, 999, RANGE),
+    (FX, "div", LEAST_I32, 1000, LEAST_I32),
+    (FX, "div", LEAST_I32, -1000, RANGE),
+    (FX, "div", 2147483, 1, 2147483000),
+    (FX, "div", 2147484, 1, RANGE),
 ]
 
 
-def integers(rng, kind, name, operation, edges, low, high):
+def near_edge(rng, kind, name, low, high):
+    """Operands whose exact result lies near an end of the type, on either side; by zero too."""
+    end, off = rng.choice((low, high - 1)), rng.randrange(-2, 3)
+    a = rng.randrange(low, high)
+    small = rng.randrange(2, 5000) * (rng.choice((1, -1)) if low else 1)
+    if name == "add":
+        return (a, end + off - a)
+    if name == "sub":
+        return (a, a - end - off)
+    scale = 1000 if kind is FX else 1
+    if name == "mul":
+        return (small, truncated(end * scale, small) + off)
+    if kind is FX:
+        return (truncated(end * small, scale) + off, small)
+    return (end + off, rng.choice((0, 1, -1 if low else 2, small)))
+
+
+def integers(rng, ends, kind, name, operation, edges, low, high):
     pairs = [(a, b) for k, n, a, b, result in STARRED if k is kind and n == name]
     pairs += [(a, b) for a in edges for b in edges]
     pairs += [(rng.randrange(low, high), rng.randrange(low, high)) for _ in range(4)]
     pairs += [(rng.randrange(low, high), rng.randrange(-1000 if low else 0, 1000)) for _ in range(4)]
+    pairs += [(a, b) for k, n, a, b, result in REASONS if k is kind and n == name]
+    if name not in ("lt", "le"):
+        near = [near_edge(ends, kind, name, low, high) for _ in range(40)]
+        pairs += [(a, b) for a, b in near if low <= a < high and low <= b < high]
     rows = []
     for a, b in dict.fromkeys(pairs):
         result = operation(a, b)
-        rows.append((a % (1 << 32), b % (1 << 32), int(result is not None), (result or 0) % (1 << 32)))
+        rows.append((a % (1 << 32), b % (1 << 32), result if isinstance(result, str) else result % (1 << 32)))
     return rows
 
 
@@ -402,8 +481,15 @@ def line(text):
     return text.ljust(LINE) + "\n"
 
 
-def row(left, right, present, result):
-    return line("%016X %016X %s" % (left, right, "%016X" % result if present else "none"))
+def row(left, right, result):
+    return line("%016X %016X %s" % (left, right, result if isinstance(result, str) else "%016X" % result))
+
+
+def printed(name, rows):
+    """What the program writes of a group: each row that is declined with its reason, and the count of those that pass.
+    The kit writes hexadecimal digits in small letters."""
+    declined = ["declined: %016x %016x %s\n" % row for row in rows if row[2] in (ZERO, RANGE)]
+    return "".join(declined) + "%s: %d passed\n" % (name, len(rows))
 
 
 def write(path, text):
@@ -418,6 +504,7 @@ def main():
         print(__doc__.strip())
         sys.exit(0 if "--help" in sys.argv[1:] else 2)
     rng = random.Random(754)
+    ends = random.Random(5)
     groups = []  # the leaf's number, the group's name, and its rows
 
     def group(kind, leaf, name, rows):
@@ -427,7 +514,7 @@ def main():
         assert operation(a, b) == bits, (name, hex(a), hex(b), hex(operation(a, b)))
     operations = [("add", add), ("sub", subtract), ("mul", multiply), ("div", divide)]
     for leaf, (name, operation) in enumerate(operations, 1):
-        rows = [(a, b, 1, bits) for n, _, a, b, bits in PUBLISHED if n == name]
+        rows = [(a, b, bits) for n, _, a, b, bits in PUBLISHED if n == name]
         group("f64", leaf, "f64 %s, published" % name, rows)
     for leaf, (name, operation) in enumerate(operations, 1):
         group("f64", leaf, "f64 " + name, floats(rng, name, operation, 105))
@@ -437,9 +524,13 @@ def main():
     for a, b, quotient in BY_ZERO:
         assert ieee_divide(a, b) == quotient
     by_zero = [(a, b) for a in EDGES for b in (0, SIGN)]
-    group("f64", 4, "f64 div by zero", [(a, b, 0, 0) for a, b in by_zero])
-    group("f64", 5, "f64 IEEE div by zero", [(a, b, 1, ieee_divide(a, b)) for a, b in by_zero])
-    group("f64", 0, "f64 bits", [(a, 0, 1, NAN if is_nan(a) else a) for a in EDGES])
+    group("f64", 4, "f64 div by zero", [(a, b, divide(a, b)) for a, b in by_zero])
+    # A divisor next to zero, or NaN, is no zero divisor.
+    others = [(a, b) for a in (0, SIGN, 0x3FF0000000000000, INFINITY, NAN) for b in (1, SIGN + 1, NAN, SIGN + NAN, INFINITY + 1)]
+    assert not any(divide(a, b) == ZERO for a, b in others)
+    group("f64", 4, "f64 div by no zero", [(a, b, divide(a, b)) for a, b in others])
+    group("f64", 5, "f64 IEEE div by zero", [(a, b, ieee_divide(a, b)) for a, b in by_zero])
+    group("f64", 0, "f64 bits", [(a, 0, NAN if is_nan(a) else a) for a in EDGES])
 
     for label, kind, edges, low, high in (
         ("i32", I32, I32_EDGES, -(1 << 31), 1 << 31),
@@ -447,31 +538,31 @@ def main():
         ("fx", FX, FX_EDGES, -(1 << 31), 1 << 31),
     ):
         for leaf, (name, operation) in enumerate(kind, 1):
-            for k, n, a, b, result in STARRED:
+            for k, n, a, b, result in STARRED + REASONS:
                 assert k is not kind or n != name or operation(a, b) == result
-            group(label, leaf, "%s %s" % (label, name), integers(rng, kind, name, operation, edges, low, high))
+            group(label, leaf, "%s %s" % (label, name), integers(rng, ends, kind, name, operation, edges, low, high))
 
     for leaf, (name, operation) in enumerate(QUAD, 1):
-        group("quad", leaf, "quad " + name, [(a, b, 1, operation(a, b)) for a in range(4) for b in range(4)])
-    group("quad", 4, "quad not", [(a, 0, 1, exchanged(a)) for a in range(4)])
+        group("quad", leaf, "quad " + name, [(a, b, operation(a, b)) for a in range(4) for b in range(4)])
+    group("quad", 4, "quad not", [(a, 0, exchanged(a)) for a in range(4)])
     for leaf, (name, operation) in enumerate(TRUTH, 5):
-        group("quad", leaf, "quad truth " + name, [(a, b, 1, operation(a, b)) for a in range(4) for b in range(4)])
-    group("quad", 8, "quad truth not", [(a, 0, 1, exchanged(a)) for a in range(4)])
+        group("quad", leaf, "quad truth " + name, [(a, b, operation(a, b)) for a in range(4) for b in range(4)])
+    group("quad", 8, "quad truth not", [(a, 0, exchanged(a)) for a in range(4)])
     numbers = (0, 1, 2, 3, 4, 5, 6, 7, 128, 252, 254, 255)
-    group("quad", 0, "quad number", [(n, 0, int(n < 4), n if n < 4 else 0) for n in numbers])
+    group("quad", 0, "quad number", [(n, 0, n if n < 4 else NONE) for n in numbers])
     for leaf, (name, operation) in enumerate((("and", lambda a, b: a & b), ("or", lambda a, b: a | b)), 1):
-        group("bool", leaf, "bool " + name, [(a, b, 1, operation(a, b)) for a in range(2) for b in range(2)])
-    group("bool", 3, "bool not", [(a, 0, 1, 1 - a) for a in range(2)])
+        group("bool", leaf, "bool " + name, [(a, b, operation(a, b)) for a in range(2) for b in range(2)])
+    group("bool", 3, "bool not", [(a, 0, 1 - a) for a in range(2)])
 
     for leaf, (name, operands, operation) in enumerate(EQUAL, 1):
-        group("eq", leaf, "const eq, " + name, [(a, b, 1, operation(a, b)) for a in operands for b in operands])
+        group("eq", leaf, "const eq, " + name, [(a, b, operation(a, b)) for a in operands for b in operands])
     # The zeros of two kinds differ, and Unknown equals none.
-    rows = [(a, b, 1, 0) for a in range(len(KINDS)) for b in range(len(KINDS)) if a != b or a == 0]
+    rows = [(a, b, 0) for a in range(len(KINDS)) for b in range(len(KINDS)) if a != b or a == 0]
     group("eq", 0, "const eq, two kinds", rows)
 
     text = [line("# %02X %02X %s" % (leaf, len(name), name)) + "".join(row(*r) for r in rows) for leaf, name, rows in groups]
     write("data/vectors.txt", "".join(text))
-    write("stdout", "".join("%s: %d passed\n" % (name, len(rows)) for _, name, rows in groups))
+    write("stdout", "".join(printed(name, rows) for _, name, rows in groups))
     print("%d vectors in %d groups" % (sum(len(rows) for _, _, rows in groups), len(groups)))
 
 

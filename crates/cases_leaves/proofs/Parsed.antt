@@ -1,17 +1,17 @@
--- A row's bytes, a digit a turn, and its answers compared.
-use Prim.Native.Nat.{ℕ, suc, _+_, _-_, _≤_, _<_}
-use mathlib.Core.Path.{_≡_, refl, sym, _∙_, ap}
+-- A row's bytes, a digit or a character a turn, and its answers compared.
+use Prim.Native.Nat.{ℕ, zero, suc, _+_, _-_, _≤_, _<_}
+use mathlib.Core.Path.{_≡_, refl, sym, _∙_, ap, ap₂}
 use mathlib.Core.Logic.{_↔_}
 use mathlib.Core.Bool.{Bool, true, false, _&&_}
-use mathlib.Core.List.{List}
+use mathlib.Core.List.{List, [], _∷_}
 use native.Mathlib.Omega.{arith}
 use native.Mathlib.Numerals.{add-one}
 use lib.Dec.{eqb}
-use lib.ListN.{getD}
-use borrow.Author.Tests.{lt-ltb, le-ltb}
-use Rattle.cases_leaves.specs.Rows.{digitOf, more, numberIn, kindOf, bitsIn, rowIn, HoldsAs, Holds, HoldsFor, HoldsUnder}
+use lib.ListN.{length, getD, drop}
+use borrow.Author.Tests.{lt-ltb, le-ltb, eq-eqb, ne-eqb}
+use Rattle.cases_leaves.specs.Rows.{digitOf, more, numberIn, isText, kindOf, bitsIn, rowIn, HoldsAs, Holds, HoldsFor, HoldsUnder}
 use Rattle.cases_leaves.specs.declared.leaf.Answer.{Answer}
-use Rattle.cases_leaves.specs.declared.leaf.Answer.the-variants.{Value, Absent, NoLeaf}
+use Rattle.cases_leaves.specs.declared.leaf.Answer.the-variants.{Value, Absent, DivisorZero, OutOfRange, NoLeaf}
 use Rattle.cases_leaves.specs.Leaves.{answerOf}
 use Rattle.cases_leaves.specs.declared.row.Row.{Row}
 use Rattle.cases_leaves.specs.declared.row.Row.the-variants.{Vector, Malformed as NoRow}
@@ -47,18 +47,54 @@ number-end line at i n count r h f =
     let c : count - i ≡ 0 = omega arith in
     rw c at f
 
+-- ---- a text
+
+drop-cons : (l : List ℕ) (i : ℕ) → i < length l → drop i l ≡ getD l i 0 ∷ drop (suc i) l
+drop-cons [] i h = absurd (omega arith)
+drop-cons (x ∷ l) zero h = refl
+drop-cons (x ∷ l) (suc i) h = drop-cons l i (omega arith)
+
+drop-past : (l : List ℕ) (i : ℕ) → length l ≤ i → drop i l ≡ []
+drop-past [] zero h = refl
+drop-past [] (suc i) h = refl
+drop-past (x ∷ l) zero h = absurd (omega arith)
+drop-past (x ∷ l) (suc i) h = drop-past l i (omega arith)
+
+module _ (line text : List ℕ) (at i : ℕ) (r : Bool) (f : isText line (at + i) (drop i text) ≡ r) where
+  pub text-turn : i < length text → getD line (at + i) 0 ≡ getD text i 0 → isText line (at + (i + 1)) (drop (i + 1) text) ≡ r
+  unfolding isText
+  text-turn h e =
+      let a : at + suc i ≡ suc (at + i) = omega arith in
+      rw (add-one, a) (simp (drop-cons text i h, eq-eqb _ _ e) at f)
+
+  pub text-differs : i < length text → (getD line (at + i) 0 ≡ getD text i 0 → ⊥) → false ≡ r
+  unfolding isText
+  text-differs h n = simp (drop-cons text i h, ne-eqb _ _ n) at f
+
+  pub text-end : length text ≤ i → true ≡ r
+  unfolding isText
+  text-end h = simp (drop-past text i h) at f
+
+pub text-start : (line text : List ℕ) (at : ℕ) → isText line (at + 0) (drop 0 text) ≡ isText line at text
+text-start line text at =
+    let a : at + 0 ≡ at = omega arith in
+    rw a
+
 -- ---- answers
 
+-- the answer of two numbers, which gives back each that they came from
+abbrev answer : ℕ → ℕ → Answer
+answer k n = getD (Value n ∷ Absent ∷ DivisorZero ∷ OutOfRange ∷ []) k NoLeaf
+
+answer-back : (a : Answer) → answer (kindOf a) (bitsIn a) ≡ a
+answer-back (Value x) = refl
+answer-back Absent = refl
+answer-back DivisorZero = refl
+answer-back OutOfRange = refl
+answer-back NoLeaf = refl
+
 equal-answer : (a b : Answer) → kindOf a ≡ kindOf b → bitsIn a ≡ bitsIn b → a ≡ b
-equal-answer (Value x) (Value y) k e = ap Value e
-equal-answer (Value x) Absent k e = absurd (omega (arith, k))
-equal-answer (Value x) NoLeaf k e = absurd (omega (arith, k))
-equal-answer Absent (Value y) k e = absurd (omega (arith, k))
-equal-answer Absent Absent k e = refl
-equal-answer Absent NoLeaf k e = absurd (omega (arith, k))
-equal-answer NoLeaf (Value y) k e = absurd (omega (arith, k))
-equal-answer NoLeaf Absent k e = absurd (omega (arith, k))
-equal-answer NoLeaf NoLeaf k e = refl
+equal-answer a b k e = sym (answer-back a) ∙ ap₂ answer k e ∙ answer-back b
 
 module _ (a b : Answer) where
   pub same-answer : (k l m n : ℕ) → k ≡ kindOf a → l ≡ kindOf b → m ≡ bitsIn a → n ≡ bitsIn b → ((eqb k l && eqb m n) ≡ true) ↔ (a ≡ b)

@@ -18,10 +18,10 @@ use Rattle.leaves.specs.declared.quad.QuadResult.{QuadResult}
 use Rattle.leaves.proofs.verdict.Verdict.{the-type as the-verdict}
 use Rattle.leaves.specs.declared.constant.ConstVal.{ConstVal}
 use Rattle.leaves.specs.declared.verdict.Verdict.{Verdict}
-use Rattle.leaves.specs.declared.verdict.Verdict.the-variants.{Value as ValueV, LeftUnknown, RightUnknown, Unfit, NoResult, NotComputed}
-use Rattle.cases_leaves.specs.Leaves.{pick, u32Of, i32Of, quadIn, quadAt, constantOf, ofVerdict}
+use Rattle.leaves.specs.declared.verdict.Verdict.the-variants.{Value as ValueV, LeftUnknown, RightUnknown, Unfit, DivisorZero, OutOfRange, NotComputed}
+use Rattle.cases_leaves.specs.Leaves.{pick, u32Of, i32Of, quadIn, quadAt, constantOf, ofVerdict, reasonOf}
 use Rattle.cases_leaves.specs.declared.leaf.Answer.{Answer}
-use Rattle.cases_leaves.specs.declared.leaf.Answer.the-variants.{Absent, NoLeaf}
+use Rattle.cases_leaves.specs.declared.leaf.Answer.the-variants.{NoLeaf}
 
 module _ {A : Type 0} where
   pub getD-past : (l : List A) (n : ℕ) (d : A) → length l ≤ n → getD l n d ≡ d
@@ -80,13 +80,14 @@ quad-at n k r e f = rw (f, e)
 
 -- ---- an answer by a verdict: there is no value, it is of another kind, or it is found
 
-pub absent : (bits : ConstVal → Answer) (v : Verdict) → OneOf (1 ∷ 2 ∷ 3 ∷ 4 ∷ 5 ∷ []) (tagOf the-verdict v) → Absent ≡ ofVerdict bits v
-absent bits (ValueV x) h = absurd (miss (1 ∷ 2 ∷ 3 ∷ 4 ∷ 5 ∷ []) 0 tt h)
-absent bits LeftUnknown h = refl
-absent bits RightUnknown h = refl
-absent bits Unfit h = refl
-absent bits NoResult h = refl
-absent bits NotComputed h = refl
+pub declined : (bits : ConstVal → Answer) (v : Verdict) {r : Answer} → OneOf (1 ∷ 2 ∷ 3 ∷ 4 ∷ 5 ∷ 6 ∷ []) (tagOf the-verdict v) → r ≡ reasonOf v → r ≡ ofVerdict bits v
+declined bits (ValueV x) h e = absurd (miss (1 ∷ 2 ∷ 3 ∷ 4 ∷ 5 ∷ 6 ∷ []) 0 tt h)
+declined bits LeftUnknown h e = e
+declined bits RightUnknown h e = e
+declined bits Unfit h e = e
+declined bits DivisorZero h e = e
+declined bits OutOfRange h e = e
+declined bits NotComputed h e = e
 
 pub other-kind : (bits : ConstVal → Answer) {v : Verdict} {x : ConstVal} → v ≡ ValueV x → bits x ≡ NoLeaf → NoLeaf ≡ ofVerdict bits v
 other-kind bits e f = sym (ap (ofVerdict bits) e ∙ f)

@@ -17,7 +17,7 @@ use Rattle.leaves.specs.Fixed.{addFx, subFx, mulFx, divFx}
 use Rattle.leaves.specs.Quads.{qAnd, qOr, qImpl, qNot, qTruthAnd, qTruthOr, qTruthImpl, qTruthNot, quadOf, numberOf}
 use Rattle.leaves.specs.Constants.{constEq, onF64, onI32, onU32, onFx}
 use Rattle.leaves.specs.declared.verdict.Verdict.{Verdict}
-use Rattle.leaves.specs.declared.verdict.Verdict.the-variants.{Value as ValueV, LeftUnknown, RightUnknown, Unfit, NoResult, NotComputed}
+use Rattle.leaves.specs.declared.verdict.Verdict.the-variants.{Value as ValueV, LeftUnknown, RightUnknown, Unfit, DivisorZero as DivisorZeroV, OutOfRange as OutOfRangeV, NotComputed}
 use Rattle.leaves.specs.declared.quad.Quad.{Quad}
 use Rattle.leaves.specs.declared.quad.Quad.the-variants.{N}
 use Rattle.leaves.specs.declared.quad.QuadResult.{QuadResult}
@@ -25,7 +25,7 @@ use Rattle.leaves.specs.declared.quad.QuadResult.the-variants.{Value as ValueQ,
 use Rattle.leaves.specs.declared.constant.ConstVal.{ConstVal}
 use Rattle.leaves.specs.declared.constant.ConstVal.the-variants.{Unknown, Quad as QuadV, Bool as BoolV, F64, I32, U32, Fx}
 use Rattle.cases_leaves.specs.declared.leaf.Answer.{Answer}
-use Rattle.cases_leaves.specs.declared.leaf.Answer.the-variants.{Value, Absent, NoLeaf}
+use Rattle.cases_leaves.specs.declared.leaf.Answer.the-variants.{Value, Absent, DivisorZero, OutOfRange, NoLeaf}
 
 -- ---- operands
 
@@ -62,13 +62,18 @@ u32Bits v = onU32 v (λ (x : ℕ). Value x) NoLeaf
 abbrev pub fxBits : ConstVal → Answer
 fxBits v = onFx v (λ (x : ℤ). Value (ofZ w32 x)) NoLeaf
 
+-- a value's bits, or one of the two reasons; a number leaf has no other
 abbrev pub ofVerdict : (ConstVal → Answer) → Verdict → Answer
 ofVerdict bits (ValueV v) = bits v
-ofVerdict bits LeftUnknown = Absent
-ofVerdict bits RightUnknown = Absent
-ofVerdict bits Unfit = Absent
-ofVerdict bits NoResult = Absent
-ofVerdict bits NotComputed = Absent
+ofVerdict bits LeftUnknown = NoLeaf
+ofVerdict bits RightUnknown = NoLeaf
+ofVerdict bits Unfit = NoLeaf
+ofVerdict bits DivisorZeroV = DivisorZero
+ofVerdict bits OutOfRangeV = OutOfRange
+ofVerdict bits NotComputed = NoLeaf
+
+abbrev pub reasonOf : Verdict → Answer
+reasonOf v = ofVerdict (λ (x : ConstVal). NoLeaf) v
 
 abbrev pub ofQuad : Quad → Answer
 ofQuad q = Value (numberOf q)

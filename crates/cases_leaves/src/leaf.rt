@@ -1,7 +1,7 @@
 // A leaf by its number, at two operands, each given by its bits, a quad and a bool by their numbers.
 ghost use mathlib.Core.Path.{_≡_};
 ghost use Prim.Native.Nat.{_%_};
-ghost use Rattle.cases_leaves.specs.Leaves.{u32Of, i32Of, quadAt, constantOf, ofVerdict, f64Bits, i32Bits, u32Bits, fxBits, ofQuad, ofNumber, ofBool, f64Leaf, i32Leaf, u32Leaf, fxLeaf, quadLeaf, boolLeaf, equalityLeaf, answerOf};
+ghost use Rattle.cases_leaves.specs.Leaves.{u32Of, i32Of, quadAt, constantOf, ofVerdict, reasonOf, f64Bits, i32Bits, u32Bits, fxBits, ofQuad, ofNumber, ofBool, f64Leaf, i32Leaf, u32Leaf, fxLeaf, quadLeaf, boolLeaf, equalityLeaf, answerOf};
 use leaves::compare::bool_and;
 use leaves::compare::bool_not;
 use leaves::compare::bool_or;
@@ -20,9 +20,12 @@ use leaves::signed;
 use leaves::unsigned;
 use leaves::verdict::Verdict;
 
+// A value by its bits; no value, of a number that is no quad's; the two reasons of a number leaf.
 pub enum Answer {
     Value(u64),
     Absent,
+    DivisorZero,
+    OutOfRange,
     NoLeaf,
 }
 
@@ -193,7 +196,7 @@ fn of_f64(v: Verdict) -> Answer
     ensures { λ t. ⌜ t ≡ ofVerdict f64Bits v ⌝ }
 {
     let Verdict::Value(x) = v else {
-        return Answer::Absent;
+        return reason(v);
     };
     let ConstVal::F64(a) = x else {
         return Answer::NoLeaf;
@@ -205,7 +208,7 @@ fn of_i32(v: Verdict) -> Answer
     ensures { λ t. ⌜ t ≡ ofVerdict i32Bits v ⌝ }
 {
     let Verdict::Value(x) = v else {
-        return Answer::Absent;
+        return reason(v);
     };
     let ConstVal::I32(a) = x else {
         return Answer::NoLeaf;
@@ -217,7 +220,7 @@ fn of_u32(v: Verdict) -> Answer
     ensures { λ t. ⌜ t ≡ ofVerdict u32Bits v ⌝ }
 {
     let Verdict::Value(x) = v else {
-        return Answer::Absent;
+        return reason(v);
     };
     let ConstVal::U32(a) = x else {
         return Answer::NoLeaf;
@@ -229,12 +232,27 @@ fn of_fx(v: Verdict) -> Answer
     ensures { λ t. ⌜ t ≡ ofVerdict fxBits v ⌝ }
 {
     let Verdict::Value(x) = v else {
-        return Answer::Absent;
+        return reason(v);
     };
     let ConstVal::Fx(a) = x else {
         return Answer::NoLeaf;
     };
     Answer::Value(signed::bits_of(a) as u64)
+}
+
+// Why there is no value. A number leaf has two reasons.
+fn reason(v: Verdict) -> Answer
+    ensures { λ t. ⌜ t ≡ reasonOf v ⌝ }
+{
+    match v {
+        Verdict::Value(_) => Answer::NoLeaf,
+        Verdict::LeftUnknown => Answer::NoLeaf,
+        Verdict::RightUnknown => Answer::NoLeaf,
+        Verdict::Unfit => Answer::NoLeaf,
+        Verdict::DivisorZero => Answer::DivisorZero,
+        Verdict::OutOfRange => Answer::OutOfRange,
+        Verdict::NotComputed => Answer::NoLeaf,
+    }
 }
 
 fn of_number(r: QuadResult) -> Answer

@@ -1,10 +1,11 @@
-// A row of vectors: the operands and the result in 16 hexadecimal digits each, or `none` where there is no result.
+// A row of vectors: the operands and the result in 16 hexadecimal digits each; in the result's place may stand a reason, `divisor zero` or
+// `out of range`, or `none` where there is no quad.
 ghost use mathlib.Core.Path.{_≡_};
 ghost use mathlib.Core.Logic.{_↔_};
 ghost use mathlib.Core.Bool.{true, false};
 ghost use Prim.Native.Nat.{_+_, _≤_};
-ghost use lib.ListN.{getD};
-ghost use Rattle.cases_leaves.specs.Rows.{kindOf, bitsIn, digitOf, numberIn, isSeparated, saysNone, resultIn, rowIn, Holds};
+ghost use lib.ListN.{getD, length};
+ghost use Rattle.cases_leaves.specs.Rows.{kindOf, bitsIn, digitOf, numberIn, isSeparated, isText, resultIn, rowIn, Holds};
 use crate::leaf::Answer;
 use crate::leaf::compute;
 
@@ -14,13 +15,16 @@ pub enum Field {
     Malformed,
 }
 
+// Where the result stands.
+const RESULT: usize = 34;
+
 // The operands and the result.
 pub enum Row {
     Vector(u64, u64, Answer),
     Malformed,
 }
 
-// Whether the leaf gives what the row says; if not, with a line that names the vector.
+// Whether the leaf gives what the row says. If not, with a line that names the vector; and if the leaf declines, with its reason.
 pub fn holds(group: &[u8], leaf: u64, line: &[u8]) -> bool
     ensures { λ r. ⌜ (r ≡ true) ↔ Holds leaf (now (line .entry)) ⌝ }
 {
@@ -30,7 +34,9 @@ pub fn holds(group: &[u8], leaf: u64, line: &[u8]) -> bool
     };
     let got = compute(leaf, a, b);
     let held = same(got, expected);
-    if !held {
+    if held {
+        told(a, b, got);
+    } else {
         wrong(group, a, b, expected, got);
     }
     held
@@ -56,10 +62,16 @@ fn read(line: &[u8]) -> Row
 fn read_result(line: &[u8], a: u64, b: u64) -> Row
     ensures { λ r. ⌜ r ≡ resultIn (now (line .entry)) a b ⌝ }
 {
-    if says_none(line) {
+    if says(line, RESULT, b"none            ") {
         return Row::Vector(a, b, Answer::Absent);
     }
-    let result = number(line, 34, 16);
+    if says(line, RESULT, b"divisor zero    ") {
+        return Row::Vector(a, b, Answer::DivisorZero);
+    }
+    if says(line, RESULT, b"out of range    ") {
+        return Row::Vector(a, b, Answer::OutOfRange);
+    }
+    let result = number(line, RESULT, 16);
     let Field::Value(x) = result else {
         return Row::Malformed;
     };
@@ -73,13 +85,19 @@ fn separated(line: &[u8]) -> bool
     (byte(line, 16) == 32) & (byte(line, 33) == 32) & (byte(line, 50) == 10)
 }
 
-fn says_none(line: &[u8]) -> bool
-    ensures { λ r. ⌜ r ≡ saysNone (now (line .entry)) ⌝ }
+// A text stands in the line from a position on.
+fn says(line: &[u8], at: usize, text: &[u8]) -> bool
+    requires { ⌜ at + length (now text) ≤ 65536 ⌝ }
+    ensures { λ r. ⌜ r ≡ isText (now (line .entry)) at (now (text .entry)) ⌝ }
 {
-    (byte(line, 34) == 110)
-        & (byte(line, 35) == 111)
-        & (byte(line, 36) == 110)
-        & (byte(line, 37) == 101)
+    let mut i: usize = 0;
+    while i < text.len() {
+        if byte(line, at + i) != text[i] {
+            return false;
+        }
+        i += 1;
+    }
+    true
 }
 
 // The number in so many hexadecimal digits from a position on.
@@ -143,7 +161,9 @@ fn kind_of(a: Answer) -> u64
     match a {
         Answer::Value(_) => 0,
         Answer::Absent => 1,
-        Answer::NoLeaf => 2,
+        Answer::DivisorZero => 2,
+        Answer::OutOfRange => 3,
+        Answer::NoLeaf => 4,
     }
 }
 
@@ -153,6 +173,8 @@ fn bits_of(a: Answer) -> u64
     match a {
         Answer::Value(x) => x,
         Answer::Absent => 0,
+        Answer::DivisorZero => 0,
+        Answer::OutOfRange => 0,
         Answer::NoLeaf => 0,
     }
 }
@@ -164,6 +186,27 @@ fn malformed(group: &[u8], line: &[u8]) -> bool
     casebook::text(group);
     casebook::text(line);
     false
+}
+
+// A row that is declined, and why; of any other answer nothing.
+fn told(a: u64, b: u64, got: Answer) {
+    match got {
+        Answer::Value(_) => {}
+        Answer::Absent => {}
+        Answer::DivisorZero => declined(a, b, got),
+        Answer::OutOfRange => declined(a, b, got),
+        Answer::NoLeaf => {}
+    }
+}
+
+fn declined(a: u64, b: u64, got: Answer) {
+    casebook::text(b"declined: ");
+    casebook::hex(a, 16);
+    casebook::text(b" ");
+    casebook::hex(b, 16);
+    casebook::text(b" ");
+    show(got);
+    casebook::text(b"\n");
 }
 
 fn wrong(group: &[u8], a: u64, b: u64, expected: Answer, got: Answer) {
@@ -183,6 +226,8 @@ fn show(answer: Answer) {
     match answer {
         Answer::Value(x) => casebook::hex(x, 16),
         Answer::Absent => casebook::text(b"none"),
+        Answer::DivisorZero => casebook::text(b"divisor zero"),
+        Answer::OutOfRange => casebook::text(b"out of range"),
         Answer::NoLeaf => casebook::text(b"no leaf"),
     }
 }

@@ -1,5 +1,7 @@
 pub mod Natural
+pub mod Reasons
 pub mod Soundness
+pub mod WithoutReasons
 pub mod FoldJumps
 pub mod FoldRecords
 pub mod FoldPasses

@@ -10,7 +10,7 @@ use lib.ListN.{take, drop}
 use Rattle.leaves.specs.declared.constant.ConstVal.{ConstVal}
 use Rattle.leaves.specs.declared.constant.ConstVal.the-variants.{Unknown, Quad as QuadV, Bool as BoolV, F64, I32, U32, Fx}
 use Rattle.leaves.specs.declared.verdict.Verdict.{Verdict}
-use Rattle.leaves.specs.declared.verdict.Verdict.the-variants.{Value, LeftUnknown, RightUnknown, Unfit, NoResult, NotComputed}
+use Rattle.leaves.specs.declared.verdict.Verdict.the-variants.{Value, LeftUnknown, RightUnknown, Unfit, DivisorZero, OutOfRange, NotComputed}
 use Rattle.leaves.specs.Constants.{isKnown}
 use Rattle.leaves.specs.Float.{divF64, ieeeDivF64}
 use Rattle.leaves.specs.Verdicts.{valueIn}
@@ -51,7 +51,8 @@ under-sound f u o a b v e = go (evaluate (f o) (valueOf a) (valueOf b)) refl e
     go LeftUnknown y z = cc
     go RightUnknown y z = cc
     go Unfit y z = cc
-    go NoResult y z = cc
+    go DivisorZero y z = cc
+    go OutOfRange y z = cc
     go NotComputed y z = cc
 
 -- a table under the rules g, row by row

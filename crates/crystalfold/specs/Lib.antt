@@ -5,3 +5,4 @@ pub mod Fingerprints
 pub mod Arms
 pub mod Commands
 pub mod InPlace
+pub mod Cases

@@ -1,4 +1,4 @@
--- Laws that show the definitions of specs/ to be the right ones.
+-- Laws that show the definitions of specs/ to be the right ones; what each number leaf answers is in Reasons.antt.
 use mathlib.Core.Path.{_≡_, refl, sym, _∙_, ap, subst, subst⁻¹}
 use mathlib.Core.Logic.{_⊎_, inl, inr, ⊎-elim}
 use mathlib.Core.Bool.{Bool, true, false, not, cond}
@@ -18,16 +18,12 @@ use mir.Syntax.{w32}
 use mir.Val.{SFits, ofZ, toZ}
 use mir.Facts.{toZ-ofZ, ofZ-toZ, sfits-toZ}
 use Rattle.leaves.specs.declared.constant.ConstVal.{ConstVal}
-use Rattle.leaves.specs.declared.constant.ConstVal.the-variants.{F64, I32, U32, Fx}
-use Rattle.leaves.specs.declared.verdict.Verdict.{Verdict}
-use Rattle.leaves.specs.declared.verdict.Verdict.the-variants.{Value, NoResult}
-use Rattle.leaves.specs.Signed.{residue, wrap, inI32, isZero, sameZ, checkedAs, divI32, modI32}
-use Rattle.leaves.specs.Unsigned.{addU32, subU32, mulU32, divU32, modU32}
-use Rattle.leaves.specs.Fixed.{fxScale, addFx, subFx, mulFx, divFx}
+use Rattle.leaves.specs.declared.constant.ConstVal.the-variants.{F64}
+use Rattle.leaves.specs.declared.verdict.Verdict.the-variants.{Value, DivisorZero}
+use Rattle.leaves.specs.Signed.{residue, wrap, isZero, sameZ}
 use Rattle.leaves.specs.Float.{floatOf, bitsOf, zeroFloat, ieeeDivF64, divF64, nonzero, negative, byZero}
 use Rattle.leaves.proofs.Integers.{less-or-not, sub-pos, sub-neg}
 use Rattle.leaves.proofs.Division as Division
-use Rattle.leaves.proofs.Division.{in-range-but-one}
 use Rattle.leaves.proofs.Floats.{above, back, forth}
 
 -- ---- I32: wrap z is the one i32 that is congruent to z modulo 2^32
@@ -86,91 +82,13 @@ positive : (n : ℕ) → (n ≡ 0 → ⊥) → 0 < n
 positive zero h = absurd (h refl)
 positive (suc n) h = omega arith
 
-truncated : (z d : ℤ) → isZero d ≡ false → Truncated z d (quotZ z d) (remZ z d)
+pub truncated : (z d : ℤ) → isZero d ≡ false → Truncated z d (quotZ z d) (remZ z d)
 truncated z d n = record {
   whole = Division.whole z d;
   size = Division.size z d (positive (natAbs d) (eqb-false (natAbs d) 0 n));
   not-negative = Division.not-negative z d;
   not-positive = Division.not-positive z d;
 }
-
--- ---- I32: both have a result ..
-pub record Divided (a b : ℤ) : Type 0 where
-  pub q : ℤ
-  pub r : ℤ
-  pub quotient : divI32 a b ≡ Value (I32 q)
-  pub remainder : modI32 a b ≡ Value (I32 r)
-  pub toward-zero : Truncated a b q r
-
--- .. but for divisor 0 and the least number by -1 ..
-pub divided : (a b : ℤ) → SFits w32 a → SFits w32 b → isZero b ≡ false → ((a ≡ negsuc 2147483647) × (b ≡ negsuc 0) → ⊥) → Divided a b
-unfolding divI32 modI32
-divided a b h k z n =
-    let t : inI32 (quotZ a b) ≡ true = ⊎-elim (λ (t : inI32 (quotZ a b) ≡ true). t) (λ (e : (a ≡ negsuc 2147483647) × (b ≡ negsuc 0)). absurd (n e)) (in-range-but-one a b h k) in
-    record { q = quotZ a b; r = remZ a b; quotient = simp (z, t); remainder = simp (z, t); toward-zero = truncated a b z }
-
--- .. which have neither
-pub undivided-zero : (a b : ℤ) → isZero b ≡ true → (divI32 a b ≡ NoResult) × (modI32 a b ≡ NoResult)
-unfolding divI32 modI32
-undivided-zero a b z = (simp (z), simp (z))
-
-pub undivided-least : (divI32 (negsuc 2147483647) (negsuc 0) ≡ NoResult) × (modI32 (negsuc 2147483647) (negsuc 0) ≡ NoResult)
-unfolding divI32 modI32
-undivided-least = (refl, refl)
-
--- ---- Fx: the exact number of thousandths, truncated toward zero, if an i32 holds it
-
-abbrev pub IfHeld : Verdict → ℤ → Type 0
-IfHeld v z = (inI32 z ≡ true → v ≡ Value (Fx z)) × (inI32 z ≡ false → v ≡ NoResult)
-
-if-held : (z : ℤ) → IfHeld (checkedAs Fx z) z
-if-held z = ((λ t. rw t), (λ t. rw t))
-
-pub sum-fx : (a b : ℤ) → IfHeld (addFx a b) (a +ℤ b)
-unfolding addFx
-sum-fx a b = if-held (a +ℤ b)
-
-pub difference-fx : (a b : ℤ) → IfHeld (subFx a b) (a -ℤ b)
-unfolding subFx
-difference-fx a b = if-held (a -ℤ b)
-
-pub product-fx : (a b : ℤ) → (q r : ℤ) × Truncated (a *ℤ b) fxScale q r × IfHeld (mulFx a b) q
-unfolding mulFx
-product-fx a b = (quotZ (a *ℤ b) fxScale, remZ (a *ℤ b) fxScale, truncated (a *ℤ b) fxScale refl, if-held (quotZ (a *ℤ b) fxScale))
-
-pub quotient-fx : (a b : ℤ) → isZero b ≡ false → (q r : ℤ) × Truncated (a *ℤ fxScale) b q r × IfHeld (divFx a b) q
-unfolding divFx
-quotient-fx a b z = (quotZ (a *ℤ fxScale) b, remZ (a *ℤ fxScale) b, truncated (a *ℤ fxScale) b z, rw z (if-held (quotZ (a *ℤ fxScale) b)))
-
-pub quotient-fx-zero : (a b : ℤ) → isZero b ≡ true → divFx a b ≡ NoResult
-unfolding divFx
-quotient-fx-zero a b z = rw z
-
--- ---- U32: the exact number, if it is in range
-
-pub sum-u32 : (a b : ℕ) → (a + b < 2 ^ 32 → addU32 a b ≡ Value (U32 (a + b))) × (2 ^ 32 ≤ a + b → addU32 a b ≡ NoResult)
-unfolding addU32
-sum-u32 a b = ((λ h. rw (lt-ltb (a + b) 4294967296 h)), (λ h. rw (le-ltb (a + b) 4294967296 h)))
-
-pub product-u32 : (a b : ℕ) → (a * b < 2 ^ 32 → mulU32 a b ≡ Value (U32 (a * b))) × (2 ^ 32 ≤ a * b → mulU32 a b ≡ NoResult)
-unfolding mulU32
-product-u32 a b = ((λ h. rw (lt-ltb (a * b) 4294967296 h)), (λ h. rw (le-ltb (a * b) 4294967296 h)))
-
--- what b is added to
-pub difference-u32 : (a b : ℕ) → (b ≤ a → (n : ℕ) × (subU32 a b ≡ Value (U32 n)) × (n + b ≡ a)) × (a < b → subU32 a b ≡ NoResult)
-unfolding subU32
-difference-u32 a b = ((λ h. (a - b, rw (le-leb b a h), omega arith)), (λ h. rw (lt-leb b a h)))
-
--- a = q·b + r, with r below b; neither for divisor 0
-pub quotient-u32 : (a b : ℕ) → 0 < b → (q r : ℕ) × (divU32 a b ≡ Value (U32 q)) × (modU32 a b ≡ Value (U32 r)) × (a ≡ q * b + r) × (r < b)
-unfolding divU32 modU32
-quotient-u32 a b h =
-    let z : eqb b 0 ≡ false = ne-eqb b 0 (λ (e : b ≡ 0). omega arith) in
-    (a / b, a % b, rw z, rw z, sym (div-add-mod' a b), mod-lt a h)
-
-pub quotient-u32-zero : (a : ℕ) → (divU32 a 0 ≡ NoResult) × (modU32 a 0 ≡ NoResult)
-unfolding divU32 modU32
-quotient-u32-zero a = (refl, refl)
 
 -- ---- comparisons: the orders
 
@@ -312,19 +230,11 @@ zero-bits n h t = go (floatOf n) refl t
         ∙ zero-written s e
         )
 
--- the Rust's division declines a zero, and by any other divisor gives what IEEE 754's does; so whatever value it has is IEEE 754's
-pub declined-zero : (a b : Float) → Ieee.eq b zeroFloat ≡ true → divF64 a b ≡ NoResult
-unfolding divF64
-declined-zero a b t = rw t
-
-pub divided-f64 : (a b : Float) → Ieee.eq b zeroFloat ≡ false → divF64 a b ≡ ieeeDivF64 a b
-unfolding divF64
-divided-f64 a b t = rw t
-
+-- whatever value the Rust's division has is IEEE 754's
 pub same-quotient : (a b : Float) (v : ConstVal) → divF64 a b ≡ Value v → ieeeDivF64 a b ≡ Value v
 unfolding divF64
 same-quotient a b v = go (Ieee.eq b zeroFloat)
   where
-    go : (t : Bool) → cond t NoResult (ieeeDivF64 a b) ≡ Value v → ieeeDivF64 a b ≡ Value v
+    go : (t : Bool) → cond t DivisorZero (ieeeDivF64 a b) ≡ Value v → ieeeDivF64 a b ≡ Value v
     go true e = cc
     go false e = e

@@ -6,4 +6,6 @@ pub mod Others
 pub mod Product
 pub mod QuadLaws
 pub mod Ranges
+pub mod Reasons
 pub mod Results
+pub mod WithoutReasons

@@ -14,7 +14,7 @@ use Rattle.leaves.specs.declared.constant.ConstVal.{ConstVal}
 use Rattle.leaves.specs.declared.constant.ConstVal.the-variants.{Unknown, Quad as QuadV, Bool as BoolV, F64, I32, U32, Fx}
 use Rattle.leaves.specs.Constants.{onQuad, onBool, onF64, onI32, onU32, onFx, isKnown}
 use Rattle.leaves.specs.declared.verdict.Verdict.{Verdict}
-use Rattle.leaves.specs.declared.verdict.Verdict.the-variants.{Value, LeftUnknown, RightUnknown, Unfit, NoResult, NotComputed}
+use Rattle.leaves.specs.declared.verdict.Verdict.the-variants.{Value, LeftUnknown, RightUnknown, Unfit, DivisorZero, OutOfRange, NotComputed}
 use Rattle.leaves.specs.Verdicts.{valueIn}
 use Rattle.leaves.proofs.constant.ConstVal.{the-type}
 use Rattle.leaves.proofs.verdict.Verdict.{the-type as the-verdict}
@@ -67,10 +67,11 @@ pub is-known : (v : ConstVal) → OneOf (1 ∷ 2 ∷ 3 ∷ 4 ∷ 5 ∷ 6 ∷ [])
 is-known v h = among isKnown true (1 ∷ 2 ∷ 3 ∷ 4 ∷ 5 ∷ 6 ∷ []) v h (λ t. absurd t) (λ x t. refl) (λ x t. refl) (λ x t. refl) (λ x t. refl) (λ x t. refl) (λ x t. refl)
 
 -- what is left of the verdicts once Value is gone
-pub no-value : (v : Verdict) → OneOf (1 ∷ 2 ∷ 3 ∷ 4 ∷ 5 ∷ []) (tagOf the-verdict v) → Unknown ≡ valueIn v
-no-value (Value x) h = absurd (miss (1 ∷ 2 ∷ 3 ∷ 4 ∷ 5 ∷ []) 0 tt h)
+pub no-value : (v : Verdict) → OneOf (1 ∷ 2 ∷ 3 ∷ 4 ∷ 5 ∷ 6 ∷ []) (tagOf the-verdict v) → Unknown ≡ valueIn v
+no-value (Value x) h = absurd (miss (1 ∷ 2 ∷ 3 ∷ 4 ∷ 5 ∷ 6 ∷ []) 0 tt h)
 no-value LeftUnknown h = refl
 no-value RightUnknown h = refl
 no-value Unfit h = refl
-no-value NoResult h = refl
+no-value DivisorZero h = refl
+no-value OutOfRange h = refl
 no-value NotComputed h = refl

@@ -15,7 +15,7 @@ use mir.Val.{SFits}
 use Rattle.leaves.specs.declared.constant.ConstVal.{ConstVal}
 use Rattle.leaves.specs.declared.constant.ConstVal.the-variants.{Unknown, Quad as QuadV, Bool as BoolV, F64, I32, U32, Fx}
 use Rattle.leaves.specs.declared.verdict.Verdict.{Verdict}
-use Rattle.leaves.specs.declared.verdict.Verdict.the-variants.{Value, LeftUnknown, RightUnknown, Unfit, NoResult, NotComputed}
+use Rattle.leaves.specs.declared.verdict.Verdict.the-variants.{Value, LeftUnknown, RightUnknown, Unfit, DivisorZero, OutOfRange, NotComputed}
 use Rattle.leaves.specs.Signed.{inI32, isZero, checkedAs, addI32, subI32, mulI32, divI32, modI32}
 use Rattle.leaves.specs.Unsigned.{checkedU32, addU32, subU32, mulU32, divU32, modU32}
 use Rattle.leaves.specs.Fixed.{fxScale, addFx, subFx, mulFx, divFx}
@@ -37,14 +37,15 @@ TypedResult (Value v) = Typed v
 TypedResult LeftUnknown = Unit {0}
 TypedResult RightUnknown = Unit {0}
 TypedResult Unfit = Unit {0}
-TypedResult NoResult = Unit {0}
+TypedResult DivisorZero = Unit {0}
+TypedResult OutOfRange = Unit {0}
 TypedResult NotComputed = Unit {0}
 
-none-or : (t : Bool) (v : Verdict) → TypedResult v → TypedResult (cond t NoResult v)
+none-or : (t : Bool) (v : Verdict) → TypedResult v → TypedResult (cond t DivisorZero v)
 none-or true v h = tt
 none-or false v h = h
 
-or-none : (t : Bool) (v : ConstVal) → (t ≡ true → Typed v) → TypedResult (cond t (Value v) NoResult)
+or-none : (t : Bool) (v : ConstVal) → (t ≡ true → Typed v) → TypedResult (cond t (Value v) OutOfRange)
 or-none true v h = h refl
 or-none false v h = tt
 
@@ -68,7 +69,7 @@ div-i32-fits a b = none-or (isZero b) (checkedAs I32 (quotZ a b)) (or-none (inI3
 
 pub mod-i32-fits : (a b : ℤ) → SFits w32 a → TypedResult (modI32 a b)
 unfolding modI32
-mod-i32-fits a b h = none-or (isZero b) (cond (inI32 (quotZ a b)) (Value (I32 (remZ a b))) NoResult) (or-none (inI32 (quotZ a b)) (I32 (remZ a b)) (λ t. rest-fits a b h))
+mod-i32-fits a b h = none-or (isZero b) (cond (inI32 (quotZ a b)) (Value (I32 (remZ a b))) OutOfRange) (or-none (inI32 (quotZ a b)) (I32 (remZ a b)) (λ t. rest-fits a b h))
 
 -- ---- Fx
 

@@ -1,12 +1,13 @@
 -- Promise: the Fx leaves, of document 01's module 1 (Number leaves). A value is an i32 that counts thousandths.
--- Nothing overflows on the way (the document's i64 is wide enough); none has a result outside i32 or for divisor 0.
+-- Nothing overflows on the way (the document's i64 is wide enough); none has a result outside i32 or for divisor 0. Which of the
+-- two it is, the answer says (document 02, W5).
 --
 use mathlib.Core.Bool.{cond}
 use lib.IntN.{ℤ, pos, _+ℤ_, _-ℤ_, _*ℤ_}
 use lib.Signed.{quotZ}
 use Rattle.leaves.specs.declared.constant.ConstVal.the-variants.{Fx}
 use Rattle.leaves.specs.declared.verdict.Verdict.{Verdict}
-use Rattle.leaves.specs.declared.verdict.Verdict.the-variants.{NoResult}
+use Rattle.leaves.specs.declared.verdict.Verdict.the-variants.{DivisorZero}
 use Rattle.leaves.specs.Signed.{isZero, checkedAs}
 
 -- one, in thousandths
@@ -24,5 +25,6 @@ subFx a b = checkedAs Fx (a -ℤ b)
 unfoldable pub mulFx : ℤ → ℤ → Verdict
 mulFx a b = checkedAs Fx (quotZ (a *ℤ b) fxScale)
 
+-- "zero is tested first"
 unfoldable pub divFx : ℤ → ℤ → Verdict
-divFx a b = cond (isZero b) NoResult (checkedAs Fx (quotZ (a *ℤ fxScale) b))
+divFx a b = cond (isZero b) DivisorZero (checkedAs Fx (quotZ (a *ℤ fxScale) b))

@@ -9,7 +9,7 @@ use lib.Ieee as Ieee
 use lib.Ieee.{Float, nan, inf, fin, binary64, unlike}
 use Rattle.leaves.specs.declared.constant.ConstVal.the-variants.{F64}
 use Rattle.leaves.specs.declared.verdict.Verdict.{Verdict}
-use Rattle.leaves.specs.declared.verdict.Verdict.the-variants.{Value, NoResult}
+use Rattle.leaves.specs.declared.verdict.Verdict.the-variants.{Value, DivisorZero}
 
 -- the value of a pattern of 64 bits; every NaN pattern is `nan`
 unfoldable pub floatOf : ℕ → Float
@@ -37,9 +37,10 @@ mulF64 a b = Value (F64 (Ieee.mul binary64 a b))
 abbrev pub ieeeDivF64 : Float → Float → Verdict
 ieeeDivF64 a b = Value (F64 (Ieee.div binary64 a b))
 
--- the Rust's division: "Division by either zero isn't folded; by NaN it is"
+-- the Rust's division: "Division by either zero isn't folded; by NaN it is" (document 01); "DivF64 in the default rewrite declines a zero divisor by
+-- that name" (document 02, W5)
 unfoldable pub divF64 : Float → Float → Verdict
-divF64 a b = cond (Ieee.eq b zeroFloat) NoResult (ieeeDivF64 a b)
+divF64 a b = cond (Ieee.eq b zeroFloat) DivisorZero (ieeeDivF64 a b)
 
 -- ---- division by zero in W4's own words, which are proved of IEEE 754's division, whatever the dividend (leaves/proofs/Laws.antt)
 

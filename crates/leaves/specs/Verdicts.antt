@@ -1,9 +1,10 @@
--- Promise: what a command comes to at two operands, each known or not: a value, or the first reason against one.
+-- Promise: what a command comes to at two operands, each known or not: a value, or the first reason against one. The number leaves answer `Value`,
+-- `DivisorZero` or `OutOfRange` (document 02, W5).
 use mathlib.Core.Bool.{cond}
 use Rattle.leaves.specs.declared.constant.ConstVal.{ConstVal}
 use Rattle.leaves.specs.declared.constant.ConstVal.the-variants.{Unknown}
 use Rattle.leaves.specs.declared.verdict.Verdict.{Verdict}
-use Rattle.leaves.specs.declared.verdict.Verdict.the-variants.{Value, LeftUnknown, RightUnknown, Unfit, NoResult, NotComputed}
+use Rattle.leaves.specs.declared.verdict.Verdict.the-variants.{Value, LeftUnknown, RightUnknown, Unfit, DivisorZero, OutOfRange, NotComputed}
 use Rattle.leaves.specs.Constants.{isKnown}
 
 -- v if both operands are known; else the first that isn't
@@ -23,5 +24,6 @@ valueIn (Value v) = v
 valueIn LeftUnknown = Unknown
 valueIn RightUnknown = Unknown
 valueIn Unfit = Unknown
-valueIn NoResult = Unknown
+valueIn DivisorZero = Unknown
+valueIn OutOfRange = Unknown
 valueIn NotComputed = Unknown

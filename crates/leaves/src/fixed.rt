@@ -32,7 +32,7 @@ pub fn div_fx(a: i32, b: i32) -> Verdict
     ensures { λ r. ⌜ r ≡ divFx a b ⌝ }
 {
     if b == 0 {
-        return Verdict::NoResult;
+        return Verdict::DivisorZero;
     }
     checked_fx(wide(a) * FX_SCALE / wide(b))
 }
@@ -44,5 +44,5 @@ fn checked_fx(z: i64) -> Verdict
     if in_i32(z) {
         return Verdict::Value(ConstVal::Fx(z as i32));
     }
-    Verdict::NoResult
+    Verdict::OutOfRange
 }

@@ -57,12 +57,12 @@ pub fn ieee_div_f64(a: f64, b: f64) -> Verdict
     Verdict::Value(ConstVal::F64(a / b))
 }
 
-// The Rust's: division by either zero has no result.
+// The Rust's, which declines either zero as a divisor; a NaN is none.
 pub fn div_f64(a: f64, b: f64) -> Verdict
     ensures { λ r. ⌜ r ≡ divF64 a b ⌝ }
 {
     if b == 0.0 {
-        return Verdict::NoResult;
+        return Verdict::DivisorZero;
     }
     ieee_div_f64(a, b)
 }

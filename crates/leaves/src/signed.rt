@@ -31,12 +31,12 @@ pub fn mul_i32(a: i32, b: i32) -> Verdict
     Verdict::Value(ConstVal::I32(of_bits(wrapping_mul_u32(bits_of(a), bits_of(b)))))
 }
 
-// At 64 bits the quotient of the least number by -1 exists, and is refused as too large.
+// At 64 bits the quotient of the least number by -1 exists, and is out of range.
 pub fn div_i32(a: i32, b: i32) -> Verdict
     ensures { λ r. ⌜ r ≡ divI32 a b ⌝ }
 {
     if b == 0 {
-        return Verdict::NoResult;
+        return Verdict::DivisorZero;
     }
     checked_i32(wide(a) / wide(b))
 }
@@ -46,12 +46,12 @@ pub fn mod_i32(a: i32, b: i32) -> Verdict
     ensures { λ r. ⌜ r ≡ modI32 a b ⌝ }
 {
     if b == 0 {
-        return Verdict::NoResult;
+        return Verdict::DivisorZero;
     }
     if in_i32(wide(a) / wide(b)) {
         return Verdict::Value(ConstVal::I32(a % b));
     }
-    Verdict::NoResult
+    Verdict::OutOfRange
 }
 
 // The two's complement bits of a.
@@ -103,5 +103,5 @@ fn checked_i32(z: i64) -> Verdict
     if in_i32(z) {
         return Verdict::Value(ConstVal::I32(z as i32));
     }
-    Verdict::NoResult
+    Verdict::OutOfRange
 }

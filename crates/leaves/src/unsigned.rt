@@ -10,7 +10,7 @@ pub fn add_u32(a: u32, b: u32) -> Verdict
     if a <= u32::MAX - b {
         return Verdict::Value(ConstVal::U32(a + b));
     }
-    Verdict::NoResult
+    Verdict::OutOfRange
 }
 
 pub fn sub_u32(a: u32, b: u32) -> Verdict
@@ -19,7 +19,7 @@ pub fn sub_u32(a: u32, b: u32) -> Verdict
     if b <= a {
         return Verdict::Value(ConstVal::U32(a - b));
     }
-    Verdict::NoResult
+    Verdict::OutOfRange
 }
 
 pub fn mul_u32(a: u32, b: u32) -> Verdict
@@ -29,14 +29,14 @@ pub fn mul_u32(a: u32, b: u32) -> Verdict
     if wide < 4294967296 {
         return Verdict::Value(ConstVal::U32(wide as u32));
     }
-    Verdict::NoResult
+    Verdict::OutOfRange
 }
 
 pub fn div_u32(a: u32, b: u32) -> Verdict
     ensures { λ r. ⌜ r ≡ divU32 a b ⌝ }
 {
     if b == 0 {
-        return Verdict::NoResult;
+        return Verdict::DivisorZero;
     }
     Verdict::Value(ConstVal::U32(a / b))
 }
@@ -45,7 +45,7 @@ pub fn mod_u32(a: u32, b: u32) -> Verdict
     ensures { λ r. ⌜ r ≡ modU32 a b ⌝ }
 {
     if b == 0 {
-        return Verdict::NoResult;
+        return Verdict::DivisorZero;
     }
     Verdict::Value(ConstVal::U32(a % b))
 }

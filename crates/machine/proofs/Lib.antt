@@ -2,3 +2,4 @@ pub mod ByZero
 pub mod Growth
 pub mod Simulation
 pub mod Jumps
+pub mod WithoutReasons

@@ -10,7 +10,7 @@ use lib.Dec.{ltb, leb}
 use lib.Signed.{ltZ, leZ}
 use Rattle.leaves.specs.declared.quad.Quad.{Quad}
 use Rattle.leaves.specs.declared.verdict.Verdict.{Verdict}
-use Rattle.leaves.specs.declared.verdict.Verdict.the-variants.{Value, LeftUnknown, RightUnknown, Unfit, NoResult, NotComputed}
+use Rattle.leaves.specs.declared.verdict.Verdict.the-variants.{Value, LeftUnknown, RightUnknown, Unfit, DivisorZero, OutOfRange, NotComputed}
 use Rattle.leaves.specs.Float.{addF64, subF64, mulF64, ieeeDivF64}
 use Rattle.leaves.specs.Signed.{addI32, subI32, mulI32, divI32, modI32}
 use Rattle.leaves.specs.Unsigned.{addU32, subU32, mulU32, divU32, modU32}
@@ -87,13 +87,14 @@ atOther (some (twoBool f)) = unfit
 atOther (some (twoQuad f)) = unfit
 atOther (some (equality n)) = outside
 
--- what a verdict comes to, x being what an "other" operand does
+-- what a verdict comes to, x being what an "other" operand does. Whichever reason there is against a result, the run ends by one cause, "no result"
 abbrev pub outcome : Outcome → Verdict → Outcome
 outcome x (Value v) = result (writtenOf v)
 outcome x LeftUnknown = x
 outcome x RightUnknown = x
 outcome x Unfit = unfit
-outcome x NoResult = nothing
+outcome x DivisorZero = nothing
+outcome x OutOfRange = nothing
 outcome x NotComputed = outside
 
 -- the command o at two operands

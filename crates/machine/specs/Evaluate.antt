@@ -39,7 +39,8 @@ bools f = twoBool (λ (a b : Bool). Value (BoolV (f a b)))
 abbrev pub quads : (Quad → Quad → Quad) → Meaning
 quads f = twoQuad (λ (a b : Quad). Value (QuadV (f a b)))
 
--- at two known operands: others than of the command's kind are unfit, also where there would be no result
+-- at two known operands: others than of the command's kind are unfit, also where there would be no result; else what the leaf answers, its value or
+-- its reason
 abbrev pub fitting : Meaning → ConstVal → ConstVal → Verdict
 fitting (twoI32 f) l r = onI32 l (λ (a : ℤ). onI32 r (f a) Unfit) Unfit
 fitting (twoU32 f) l r = onU32 l (λ (a : ℕ). onU32 r (f a) Unfit) Unfit
@@ -49,7 +50,7 @@ fitting (twoBool f) l r = onBool l (λ (a : Bool). onBool r (f a) Unfit) Unfit
 fitting (twoQuad f) l r = onQuad l (λ (a : Quad). onQuad r (f a) Unfit) Unfit
 fitting (equality n) l r = Value (BoolV (n (constEq l r)))
 
--- the first that applies: the left or only operand unknown, the right one unknown, kinds unfit, no result; or the value
+-- the first that applies: the left or only operand unknown, the right one unknown, kinds unfit, divisor zero, out of range; or the value
 abbrev pub evaluate : Option Meaning → ConstVal → ConstVal → Verdict
 evaluate none l r = NotComputed
 evaluate (some m) l r = ifKnown l r (fitting m l r)

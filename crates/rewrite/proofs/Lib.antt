@@ -6,3 +6,4 @@ pub mod RewriteCounts
 pub mod EachFunction
 pub mod RewritePreserves
 pub mod RustOrder
+pub mod WithoutReasons

@@ -1,5 +1,5 @@
 //! What the computed commands give: document 01's modules 1 and 2, and document 02's
-//! truth-order quads and division by a float zero.
+//! truth-order quads, division by a float zero, and reasons for no result.
 
 use crate::cells::{self, Cell, CELL, REGISTERS};
 use crate::legacy_lowering::byte;
@@ -28,7 +28,9 @@ use Const::{Bool, Quad, F64, I32, U32};
 #[derive(Debug, Clone, Copy, PartialEq, Eq)]
 pub enum Computed {
     Value(Const),
-    NoResult,
+    /// No result, and why (document 02, W5); "zero is tested first".
+    DivisorZero,
+    OutOfRange,
     /// An operand isn't of the command's kind.
     Unfit,
 }
@@ -75,9 +77,9 @@ pub fn operand_values<T: Copy>(cell: &Cell, registers: &[T; REGISTERS]) -> Optio
 /// What a computed command gives; a command of one operand ignores the right.
 pub fn compute(command: u8, left: Const, right: Const) -> Computed {
     let result = match (command, left, right) {
-        (byte::AddI32, I32(a), I32(b)) => Some(I32(wrapped(a as i64 + b as i64))),
-        (byte::SubI32, I32(a), I32(b)) => Some(I32(wrapped(a as i64 - b as i64))),
-        (byte::MulI32, I32(a), I32(b)) => Some(I32(wrapped(a as i64 * b as i64))),
+        (byte::AddI32, I32(a), I32(b)) => Ok(I32(wrapped(a as i64 + b as i64))),
+        (byte::SubI32, I32(a), I32(b)) => Ok(I32(wrapped(a as i64 - b as i64))),
+        (byte::MulI32, I32(a), I32(b)) => Ok(I32(wrapped(a as i64 * b as i64))),
         (byte::DivI32, I32(a), I32(b)) => divide(a as i64, b as i64).and_then(int).map(I32),
         // The remainder is missing where the quotient is.
         (byte::ModI32, I32(a), I32(b)) => divide(a as i64, b as i64)
@@ -102,35 +104,44 @@ pub fn compute(command: u8, left: Const, right: Const) -> Computed {
             divide(a as i64 * 1000, b as i64).and_then(int).map(Const::Fx)
         }
 
-        (byte::AddF64, F64(a), F64(b)) => Some(float(a, b, |x, y| x + y)),
-        (byte::SubF64, F64(a), F64(b)) => Some(float(a, b, |x, y| x - y)),
-        (byte::MulF64, F64(a), F64(b)) => Some(float(a, b, |x, y| x * y)),
-        (byte::DivF64, F64(a), F64(b)) if is_zero(b) => Some(F64(by_zero(a, b))),
-        (byte::DivF64, F64(a), F64(b)) => Some(float(a, b, |x, y| x / y)),
+        (byte::AddF64, F64(a), F64(b)) => Ok(float(a, b, |x, y| x + y)),
+        (byte::SubF64, F64(a), F64(b)) => Ok(float(a, b, |x, y| x - y)),
+        (byte::MulF64, F64(a), F64(b)) => Ok(float(a, b, |x, y| x * y)),
+        (byte::DivF64, F64(a), F64(b)) if is_zero(b) => Ok(F64(by_zero(a, b))),
+        (byte::DivF64, F64(a), F64(b)) => Ok(float(a, b, |x, y| x / y)),
 
-        (byte::BoolNot, Bool(a), _) => Some(Bool(!a)),
-        (byte::BoolAnd, Bool(a), Bool(b)) => Some(Bool(a & b)),
-        (byte::BoolOr, Bool(a), Bool(b)) => Some(Bool(a | b)),
+        (byte::BoolNot, Bool(a), _) => Ok(Bool(!a)),
+        (byte::BoolAnd, Bool(a), Bool(b)) => Ok(Bool(a & b)),
+        (byte::BoolOr, Bool(a), Bool(b)) => Ok(Bool(a | b)),
 
-        (byte::QNot, Quad(a), _) => Some(Quad(exchanged(a))),
-        (byte::QAnd, Quad(a), Quad(b)) => Some(Quad(greatest_lower(&APPROXIMATION, a, b))),
-        (byte::QOr, Quad(a), Quad(b)) => Some(Quad(least_upper(&APPROXIMATION, a, b))),
-        (byte::QImpl, Quad(a), Quad(b)) => Some(Quad(least_upper(&APPROXIMATION, exchanged(a), b))),
+        (byte::QNot, Quad(a), _) => Ok(Quad(exchanged(a))),
+        (byte::QAnd, Quad(a), Quad(b)) => Ok(Quad(greatest_lower(&APPROXIMATION, a, b))),
+        (byte::QOr, Quad(a), Quad(b)) => Ok(Quad(least_upper(&APPROXIMATION, a, b))),
+        (byte::QImpl, Quad(a), Quad(b)) => Ok(Quad(least_upper(&APPROXIMATION, exchanged(a), b))),
 
-        (byte::QTruthNot, Quad(a), _) => Some(Quad(exchanged(a))),
-        (byte::QTruthAnd, Quad(a), Quad(b)) => Some(Quad(greatest_lower(&TRUTH, a, b))),
-        (byte::QTruthOr, Quad(a), Quad(b)) => Some(Quad(least_upper(&TRUTH, a, b))),
-        (byte::QTruthImpl, Quad(a), Quad(b)) => Some(Quad(least_upper(&TRUTH, exchanged(a), b))),
+        (byte::QTruthNot, Quad(a), _) => Ok(Quad(exchanged(a))),
+        (byte::QTruthAnd, Quad(a), Quad(b)) => Ok(Quad(greatest_lower(&TRUTH, a, b))),
+        (byte::QTruthOr, Quad(a), Quad(b)) => Ok(Quad(least_upper(&TRUTH, a, b))),
+        (byte::QTruthImpl, Quad(a), Quad(b)) => Ok(Quad(least_upper(&TRUTH, exchanged(a), b))),
 
-        (byte::CmpEq, a, b) => Some(Bool(equal(a, b))),
-        (byte::CmpNe, a, b) => Some(Bool(!equal(a, b))),
-        (byte::CmpI32Le, I32(a), I32(b)) => Some(Bool(a <= b)),
-        (byte::CmpI32Lt, I32(a), I32(b)) => Some(Bool(a < b)),
-        (byte::CmpU32Le, U32(a), U32(b)) => Some(Bool(a <= b)),
-        (byte::CmpU32Lt, U32(a), U32(b)) => Some(Bool(a < b)),
+        (byte::CmpEq, a, b) => Ok(Bool(equal(a, b))),
+        (byte::CmpNe, a, b) => Ok(Bool(!equal(a, b))),
+        (byte::CmpI32Le, I32(a), I32(b)) => Ok(Bool(a <= b)),
+        (byte::CmpI32Lt, I32(a), I32(b)) => Ok(Bool(a < b)),
+        (byte::CmpU32Le, U32(a), U32(b)) => Ok(Bool(a <= b)),
+        (byte::CmpU32Lt, U32(a), U32(b)) => Ok(Bool(a < b)),
         _ => return Computed::Unfit,
     };
-    result.map_or(Computed::NoResult, Computed::Value)
+    result.map_or_else(|reason| reason, Computed::Value)
+}
+
+/// The Rust's DivF64, as the default rewrite has it: "declines a zero divisor by that name"
+/// (document 02, W5), and else is IEEE 754's.
+pub fn default_divide(left: u64, right: u64) -> Computed {
+    if is_zero(right) {
+        return Computed::DivisorZero;
+    }
+    compute(byte::DivF64, F64(left), F64(right))
 }
 
 /// Modulo 2^32, as an i32.
@@ -139,17 +150,20 @@ fn wrapped(number: i64) -> i32 {
     (if low < 1 << 31 { low } else { low - (1 << 32) }) as i32
 }
 
-fn int(number: i64) -> Option<i32> {
-    i32::try_from(number).ok()
+fn int(number: i64) -> Result<i32, Computed> {
+    i32::try_from(number).map_err(|_| Computed::OutOfRange)
 }
 
-fn unsigned(number: i128) -> Option<Const> {
-    u32::try_from(number).ok().map(U32)
+fn unsigned(number: i128) -> Result<Const, Computed> {
+    u32::try_from(number).map(U32).map_err(|_| Computed::OutOfRange)
 }
 
-/// Toward zero; nothing for divisor 0.
-fn divide(number: i64, divisor: i64) -> Option<i64> {
-    (divisor != 0).then(|| number / divisor)
+/// Toward zero; for divisor 0 the reason.
+fn divide(number: i64, divisor: i64) -> Result<i64, Computed> {
+    if divisor == 0 {
+        return Err(Computed::DivisorZero);
+    }
+    Ok(number / divisor)
 }
 
 fn float(a: u64, b: u64, operation: fn(f64, f64) -> f64) -> Const {

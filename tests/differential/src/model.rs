@@ -241,7 +241,7 @@ pub fn default_rules(command: u8, left: Const, right: Const) -> Option<Const> {
 pub fn fuller_rules(command: u8, left: Const, right: Const) -> Option<Const> {
     match leaves::compute(command, left, right) {
         Computed::Value(value) => Some(value),
-        Computed::NoResult | Computed::Unfit => None,
+        Computed::DivisorZero | Computed::OutOfRange | Computed::Unfit => None,
     }
 }
 

@@ -146,7 +146,7 @@ impl<'a> Run<'a> {
                 self.registers[cells::half(cell, 1) as usize] = Value::Const(value);
                 self.go_to(next)
             }
-            Computed::NoResult => self.end(Cause::NoResult),
+            Computed::DivisorZero | Computed::OutOfRange => self.end(Cause::NoResult),
             Computed::Unfit => self.end(Cause::UnfitOperand),
         }
     }

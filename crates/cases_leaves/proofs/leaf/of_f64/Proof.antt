@@ -6,7 +6,7 @@ use Rattle.leaves.specs.Float.{bitsOf}
 use borrow.Author.Needs.{needs}
 use Rattle.leaves.proofs.Others.{not-f64}
 use Rattle.cases_leaves.specs.Leaves.{f64Bits}
-use Rattle.cases_leaves.proofs.Picked.{absent, other-kind, found}
+use Rattle.cases_leaves.proofs.Picked.{declined, other-kind, found}
 use Rattle.cases_leaves.proofs.leaf.of_f64.Statement.{statement}
 use Rattle.cases_leaves.proofs.leaf.of_f64.Tie as tie
 
@@ -15,7 +15,8 @@ of-f64-spec =
     tie.close
     (tie.spec
     (λ c. search needs)
-    (λ c. absent f64Bits (c .before .args .v) (c .match .keys2))
+    (λ c κs. search needs)
+    (λ c. declined f64Bits (c .before .before .args .v) (c .before .match .keys2) (c .reason .ensures))
     (λ c. search needs)
     (λ c. other-kind f64Bits (c .before .before .v .given .1) (not-f64 (c .before .before .v .given .0 .0) (λ (x : Float). Value (bitsOf x)) NoLeaf (c .match2 .keys2)))
     (λ c κs. search needs)

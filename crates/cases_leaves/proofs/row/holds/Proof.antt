@@ -12,7 +12,7 @@ returns-2 : tie.Need-returns-2
 returns-2 c = held (c .before .before .before .before .before .before .before .before .before .before .args .leaf) (now (c .before .before .before .before .before .before .before .before .before .before .args .line)) _ (c .before .before .before .before .before .before .before .read .ensures) _ _ _ _ _ (c .before .before .before .before .before .row .given .1) (c .before .before .before .compute .ensures) (c .before .before .same .ensures)
 
 returns-3 : tie.Need-returns-3
-returns-3 c = held (c .before .before .before .before .before .before .before .before .before .args .leaf) (now (c .before .before .before .before .before .before .before .before .before .args .line)) _ (c .before .before .before .before .before .before .read .ensures) _ _ _ _ _ (c .before .before .before .before .row .given .1) (c .before .before .compute .ensures) (c .before .same .ensures)
+returns-3 c = held (c .before .before .before .before .before .before .before .before .before .before .args .leaf) (now (c .before .before .before .before .before .before .before .before .before .before .args .line)) _ (c .before .before .before .before .before .before .before .read .ensures) _ _ _ _ _ (c .before .before .before .before .before .row .given .1) (c .before .before .before .compute .ensures) (c .before .before .same .ensures)
 
 pub holds-spec : {M : Type 1} → statement M
 holds-spec =
@@ -23,6 +23,7 @@ holds-spec =
     (λ c. search needs)
     (λ c κs. search needs)
     returns
+    (λ c κs. search needs)
     (λ c κs. search needs)
     (λ c κs. search needs)
     (λ c κs. search needs)
