@@ -72,6 +72,7 @@ ofVerdict bits DivisorZeroV = DivisorZero
 ofVerdict bits OutOfRangeV = OutOfRange
 ofVerdict bits NotComputed = NoLeaf
 
+-- why there is no value
 abbrev pub reasonOf : Verdict → Answer
 reasonOf v = ofVerdict (λ (x : ConstVal). NoLeaf) v
 

@@ -15,14 +15,14 @@ pub enum Field {
     Malformed,
 }
 
-// Where the result stands.
-const RESULT: usize = 34;
-
 // The operands and the result.
 pub enum Row {
     Vector(u64, u64, Answer),
     Malformed,
 }
+
+// Where the result stands in a line.
+const RESULT: usize = 34;
 
 // Whether the leaf gives what the row says. If not, with a line that names the vector; and if the leaf declines, with its reason.
 pub fn holds(group: &[u8], leaf: u64, line: &[u8]) -> bool
@@ -35,7 +35,7 @@ pub fn holds(group: &[u8], leaf: u64, line: &[u8]) -> bool
     let got = compute(leaf, a, b);
     let held = same(got, expected);
     if held {
-        told(a, b, got);
+        tell(a, b, got);
     } else {
         wrong(group, a, b, expected, got);
     }
@@ -188,8 +188,8 @@ fn malformed(group: &[u8], line: &[u8]) -> bool
     false
 }
 
-// A row that is declined, and why; of any other answer nothing.
-fn told(a: u64, b: u64, got: Answer) {
+// Writes a line for a row that is declined: why.
+fn tell(a: u64, b: u64, got: Answer) {
     match got {
         Answer::Value(_) => {}
         Answer::Absent => {}
@@ -201,9 +201,7 @@ fn told(a: u64, b: u64, got: Answer) {
 
 fn declined(a: u64, b: u64, got: Answer) {
     casebook::text(b"declined: ");
-    casebook::hex(a, 16);
-    casebook::text(b" ");
-    casebook::hex(b, 16);
+    operands(a, b);
     casebook::text(b" ");
     show(got);
     casebook::text(b"\n");
@@ -211,15 +209,19 @@ fn declined(a: u64, b: u64, got: Answer) {
 
 fn wrong(group: &[u8], a: u64, b: u64, expected: Answer, got: Answer) {
     casebook::text(b"wrong: ");
-    casebook::hex(a, 16);
-    casebook::text(b" ");
-    casebook::hex(b, 16);
+    operands(a, b);
     casebook::text(b" expected ");
     show(expected);
     casebook::text(b" got ");
     show(got);
     casebook::text(b" in ");
     casebook::text(group);
+}
+
+fn operands(a: u64, b: u64) {
+    casebook::hex(a, 16);
+    casebook::text(b" ");
+    casebook::hex(b, 16);
 }
 
 fn show(answer: Answer) {

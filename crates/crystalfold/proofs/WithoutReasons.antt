@@ -13,7 +13,7 @@ use Rattle.cells.specs.Functions.{Function}
 use Rattle.cells.specs.Ins.{Const, Ins, load, comp, label, jmp, jmpIf, ret, act}
 use Rattle.cells.specs.View.{view, loadCell}
 use Rattle.machine.specs.Values.{writtenOf}
-use Rattle.machine.specs.Evaluate.{Meaning, evaluate}
+use Rattle.machine.specs.Evaluate.{evaluate}
 use Rattle.machine.proofs.WithoutReasons.{withoutReasons, evaluated}
 use Rattle.crystalfold.specs.Rules.{Rules, knownOf, fold₂}
 use Rattle.crystalfold.specs.Fold.{Table, unknown, note, foldedTo, dstOf, knownAfter, oneIf, foldCount, asLoad, fold}

@@ -1,17 +1,16 @@
 -- Document 02, W5: what each number leaf answers, whatever its operands: "a value, "divisor zero" or "out of range"", and exactly when. One law a leaf.
-use mathlib.Core.Path.{_≡_, refl, sym, ap, subst}
+use mathlib.Core.Path.{_≡_, refl, sym, ap}
 use mathlib.Core.Logic.{_↔_, _⊎_, inl, inr, ⊎-elim}
 use mathlib.Core.Bool.{Bool, true, false, false≢true, cond}
 use Prim.Native.Nat.{ℕ, zero, suc, _+_, _-_, _*_, _/_, _%_, _^_, _≤_, _<_}
 use native.Mathlib.Nat.{div-add-mod', mod-lt}
 use native.Mathlib.Omega.{arith}
-use lib.IntN.{ℤ, pos, negsuc, natAbs, _+ℤ_, _-ℤ_, _*ℤ_}
+use lib.IntN.{ℤ, pos, negsuc, _+ℤ_, _-ℤ_, _*ℤ_}
 use lib.Signed.{ltZ, quotZ, remZ}
-use lib.Dec as Dec
 use lib.Dec.{ltb, leb, eqb}
 use lib.Ieee as Ieee
 use lib.Ieee.{Float, nan, inf, fin, binary64}
-use borrow.Author.Tests.{ltb-true, ltb-false, leb-true, eqb-true, lt-ltb, le-ltb, le-leb, lt-leb, eq-eqb}
+use borrow.Author.Tests.{ltb-true, ltb-false, eqb-true, lt-ltb, le-ltb, le-leb, lt-leb, eq-eqb}
 use mir.Syntax.{w32}
 use mir.Val.{SFits}
 use Rattle.leaves.specs.declared.constant.ConstVal.{ConstVal}
@@ -43,7 +42,7 @@ always h = h .has-value .1 ((λ (n : ⊥). n), (λ (n : ⊥). n))
 
 -- ---- by tests, the first of which is for zero
 
--- what can't be, by `cc`
+-- from what can't be, anything
 never : {A : Type 0} → false ≡ true → A
 never e = absurd (false≢true e)
 

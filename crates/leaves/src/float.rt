@@ -57,7 +57,7 @@ pub fn ieee_div_f64(a: f64, b: f64) -> Verdict
     Verdict::Value(ConstVal::F64(a / b))
 }
 
-// The Rust's, which declines either zero as a divisor; a NaN is none.
+// The Rust's, which declines either zero as a divisor; a NaN isn't one.
 pub fn div_f64(a: f64, b: f64) -> Verdict
     ensures { λ r. ⌜ r ≡ divF64 a b ⌝ }
 {

@@ -1,6 +1,6 @@
 -- A run reads of a leaf's answer only whether there is a value (document 02, W5): whatever the leaves' reasons, and with none, a command comes to the
 -- same. And the one evaluator hands a leaf's answer on as it is, its reason with it.
-use mathlib.Core.Path.{_≡_, refl, sym, ap, ap₂, _∙_, fun-ext}
+use mathlib.Core.Path.{_≡_, refl, ap, ap₂, _∙_, fun-ext}
 use mathlib.Core.Bool.{Bool}
 use mathlib.Core.Option.{Option, none, some, Option·map}
 use Prim.Native.Nat.{ℕ}

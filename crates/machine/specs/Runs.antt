@@ -285,8 +285,12 @@ runs =
     -- a zero, or a dividend, of another kind ends the run
     ∷ fails 0x25 (f64 0x3FF0000000000000) (i32 0) unfitOperand
     ∷ fails 0x25 (u32 0) (f64 0) unfitOperand
-    -- no result
+    -- no result: one cause, whether the divisor is zero, the result out of range, or both
     ∷ fails 0x27 (i32 7) (i32 0) noResult  -- DivI32
+    ∷ fails 0x27 (i32 0x80000000) (i32 0) noResult  -- DivI32 -2,147,483,648 0
+    ∷ fails 0x39 (i32 0x80000000) (i32 0) noResult  -- ModI32
+    ∷ fails 0x22 (u32 7) (u32 0) noResult  -- ModU32
+    ∷ fails 0x26 (fx 2147483647) (fx 0) noResult  -- DivFx
     ∷ fails 0x27 (i32 0x80000000) (i32 0xFFFFFFFF) noResult  -- DivI32 -2,147,483,648 -1
     ∷ fails 0x39 (i32 0x80000000) (i32 0xFFFFFFFF) noResult  -- ModI32
     ∷ fails 0x1E (u32 0xFFFFFFFF) (u32 1) noResult  -- AddU32

@@ -1,6 +1,6 @@
 -- The rewrite of an image's functions reads of a leaf's answer only whether there is a value (document 02, W5): with the leaves' reasons left out, the
 -- functions handed back and the count are the same, by any rules. So the operations' bytes and answers, which are made of these, are too.
-use mathlib.Core.Path.{_≡_, refl, ap, ap₂, fun-ext}
+use mathlib.Core.Path.{_≡_, ap, fun-ext}
 use mathlib.Core.List.{List, map}
 use Prim.Native.Nat.{ℕ, _+_}
 use Rattle.cells.specs.Functions.{Function}
