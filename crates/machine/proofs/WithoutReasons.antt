@@ -3,7 +3,9 @@
 use mathlib.Core.Path.{_≡_, refl, ap, ap₂, _∙_, fun-ext}
 use mathlib.Core.Bool.{Bool}
 use mathlib.Core.Option.{Option, none, some, Option·map}
+use mathlib.Core.List.{List, [], _∷_, map}
 use Prim.Native.Nat.{ℕ}
+use lib.Dec.{eqb}
 use lib.IntN.{ℤ}
 use lib.Ieee.{Float}
 use Rattle.leaves.specs.declared.quad.Quad.{Quad}
@@ -13,10 +15,14 @@ use Rattle.leaves.specs.declared.verdict.Verdict.{Verdict}
 use Rattle.leaves.specs.declared.verdict.Verdict.the-variants.{Value, LeftUnknown, RightUnknown, Unfit, DivisorZero, OutOfRange, NotComputed}
 use Rattle.leaves.specs.Constants.{byKind, onQuad, onBool, onF64, onI32, onU32, onFx, isKnown}
 use Rattle.leaves.specs.Verdicts.{ifKnown}
-use Rattle.leaves.proofs.WithoutReasons.{withoutReason}
+use Rattle.leaves.specs.Signed.{divI32, modI32}
+use Rattle.leaves.specs.Unsigned.{addU32, subU32, mulU32, divU32, modU32}
+use Rattle.leaves.specs.Fixed.{addFx, subFx, mulFx, divFx}
+use Rattle.leaves.specs.Float.{divF64}
+use Rattle.leaves.proofs.WithoutReasons.{withoutReason, divI32₀, modI32₀, addFx₀, subFx₀, mulFx₀, divFx₀, addU32₀, subU32₀, mulU32₀, divU32₀, modU32₀, divF64₀, same-div-i32, same-mod-i32, same-add-fx, same-sub-fx, same-mul-fx, same-div-fx, same-add-u32, same-sub-u32, same-mul-u32, same-div-u32, same-mod-u32, same-div-f64}
 use Rattle.cells.proofs.Facts.{by-test}
 use Rattle.machine.specs.Values.{Value as Held, operand}
-use Rattle.machine.specs.Evaluate.{Meaning, twoI32, twoU32, twoFx, twoF64, twoBool, twoQuad, equality, fitting, evaluate}
+use Rattle.machine.specs.Evaluate.{Meaning, twoI32, twoU32, twoFx, twoF64, twoBool, twoQuad, equality, fitting, evaluate, Means, means, lookUp}
 use Rattle.machine.specs.Compute.{meaning, Outcome, atOther, outcome, compute}
 
 -- ---- of two operands of a command's kind the verdict is what its leaf answers
@@ -40,6 +46,49 @@ withoutReasons (twoF64 f) = twoF64 (λ (a b : Float). withoutReason (f a b))
 withoutReasons (twoBool f) = twoBool (λ (a b : Bool). withoutReason (f a b))
 withoutReasons (twoQuad f) = twoQuad (λ (a b : Quad). withoutReason (f a b))
 withoutReasons (equality n) = equality n
+
+-- of each leaf that may decline this is the meaning with the leaf as it was; the other leaves give no reason, and are the same
+alike : {A : Type 0} {f g : A → A → Verdict} → ((a b : A) → f a b ≡ g a b) → (λ (a b : A). f a b) ≡ g
+alike h = fun-ext λ a. fun-ext λ b. h a b
+
+pub record AsBefore : Type 0 where
+  pub div-i32 : withoutReasons (twoI32 divI32) ≡ twoI32 divI32₀
+  pub mod-i32 : withoutReasons (twoI32 modI32) ≡ twoI32 modI32₀
+  pub add-fx : withoutReasons (twoFx addFx) ≡ twoFx addFx₀
+  pub sub-fx : withoutReasons (twoFx subFx) ≡ twoFx subFx₀
+  pub mul-fx : withoutReasons (twoFx mulFx) ≡ twoFx mulFx₀
+  pub div-fx : withoutReasons (twoFx divFx) ≡ twoFx divFx₀
+  pub add-u32 : withoutReasons (twoU32 addU32) ≡ twoU32 addU32₀
+  pub sub-u32 : withoutReasons (twoU32 subU32) ≡ twoU32 subU32₀
+  pub mul-u32 : withoutReasons (twoU32 mulU32) ≡ twoU32 mulU32₀
+  pub div-u32 : withoutReasons (twoU32 divU32) ≡ twoU32 divU32₀
+  pub mod-u32 : withoutReasons (twoU32 modU32) ≡ twoU32 modU32₀
+  pub div-f64 : withoutReasons (twoF64 divF64) ≡ twoF64 divF64₀
+
+pub as-before : AsBefore
+as-before = record {
+  div-i32 = ap twoI32 (alike same-div-i32);
+  mod-i32 = ap twoI32 (alike same-mod-i32);
+  add-fx = ap twoFx (alike same-add-fx);
+  sub-fx = ap twoFx (alike same-sub-fx);
+  mul-fx = ap twoFx (alike same-mul-fx);
+  div-fx = ap twoFx (alike same-div-fx);
+  add-u32 = ap twoU32 (alike same-add-u32);
+  sub-u32 = ap twoU32 (alike same-sub-u32);
+  mul-u32 = ap twoU32 (alike same-mul-u32);
+  div-u32 = ap twoU32 (alike same-div-u32);
+  mod-u32 = ap twoU32 (alike same-mod-u32);
+  div-f64 = ap twoF64 (alike same-div-f64);
+}
+
+-- so a table's rows with the reasons left out are those of the leaves as they were; and what such a table has of a command is what the table has,
+-- its reason left out
+abbrev pub rowsWithout : List Means → List Means
+rowsWithout ms = map (λ (m : Means). means (m .command) (withoutReasons (m .meaning))) ms
+
+pub looked-up : (o : ℕ) (ms : List Means) → lookUp o (rowsWithout ms) ≡ Option·map withoutReasons (lookUp o ms)
+looked-up o [] = refl
+looked-up o (m ∷ ms) = by-test (eqb o (m .command)) (λ y. rw y) (λ y. rw y (looked-up o ms))
 
 -- a value taken apart, then the reason left out
 apart : (q : Quad → Verdict) (b : Bool → Verdict) (f : Float → Verdict) (i : ℤ → Verdict) (n : ℕ → Verdict) (z : ℤ → Verdict) (v : ConstVal)
