@@ -1,15 +1,16 @@
 -- The code's table, of values, agrees with the definition's, of bits.
 use mathlib.Core.Path.{_≡_, refl, sym, ap, _∙_}
-use mathlib.Core.Bool.{Bool, cond}
+use mathlib.Core.Bool.{Bool, true, cond, not, _&&_, false≢true}
 use mathlib.Core.Option.{Option}
-use mathlib.Core.List.{List}
+use mathlib.Core.List.{List, [], _∷_}
 use Prim.Native.Nat.{ℕ, zero, suc, _<_}
 use lib.Dec.{eqb}
-use lib.ListN.{length, getD, set, replicate}
+use lib.ListN.{length, getD, set}
 use lib.Seq.{getD-set-same, getD-set-other}
 use Rattle.leaves.specs.declared.constant.ConstVal.{ConstVal}
-use Rattle.leaves.specs.declared.constant.ConstVal.the-variants.{Unknown}
-use Rattle.cells.proofs.Facts.{by-test, eqb-true, eqb-false}
+use Rattle.leaves.specs.declared.constant.ConstVal.the-variants.{Unknown, Quad as QuadV, Bool as BoolV, F64, I32, U32, Fx}
+use Rattle.leaves.specs.Constants.{isKnown}
+use Rattle.cells.proofs.Facts.{by-test, eqb-true, eqb-false, and-true}
 use Rattle.cells.specs.Ins.{Const}
 use Rattle.crystalfold.specs.Rules.{knownOf}
 use Rattle.crystalfold.specs.Fold.{Table, unknown, note}
@@ -18,13 +19,24 @@ use Rattle.crystalfold.specs.Fold.{Table, unknown, note}
 abbrev pub Agree : List ConstVal → Table → Type 0
 Agree held t = (r : ℕ) → getD held r Unknown ≡ knownOf (t r)
 
-read-unknown : (n r : ℕ) → getD (replicate n Unknown) r Unknown ≡ Unknown
-read-unknown zero r = refl
-read-unknown (suc n) zero = refl
-read-unknown (suc n) (suc r) = read-unknown n r
+-- a table of `Unknown` alone
+abbrev pub allUnknown : List ConstVal → Bool
+allUnknown [] = true
+allUnknown (v ∷ held) = not (isKnown v) && allUnknown held
 
-pub agree-unknown : (n : ℕ) → Agree (replicate n Unknown) unknown
-agree-unknown n r = read-unknown n r
+not-known : (v : ConstVal) → not (isKnown v) ≡ true → v ≡ Unknown
+not-known Unknown e = refl
+not-known (QuadV q) e = absurd (false≢true e)
+not-known (BoolV b) e = absurd (false≢true e)
+not-known (F64 x) e = absurd (false≢true e)
+not-known (I32 z) e = absurd (false≢true e)
+not-known (U32 n) e = absurd (false≢true e)
+not-known (Fx z) e = absurd (false≢true e)
+
+pub agree-unknown : (held : List ConstVal) → allUnknown held ≡ true → Agree held unknown
+agree-unknown [] e r = refl
+agree-unknown (v ∷ held) e zero = not-known v (and-true (not (isKnown v)) (allUnknown held) e .0)
+agree-unknown (v ∷ held) e (suc r) = agree-unknown held (and-true (not (isKnown v)) (allUnknown held) e .1) r
 
 pub agree-note : (held : List ConstVal) (t : Table) (d : ℕ) (v : ConstVal) (k : Option Const) → d < length held → knownOf k ≡ v
     → Agree held t → Agree (set held d v) (note d k t)

@@ -11,5 +11,6 @@ pub mod FoldWellFormed
 pub mod Meanings
 pub mod Effects
 pub mod Agreement
+pub mod Written
 pub mod Turn
 pub mod Kept

@@ -6,7 +6,7 @@ use mathlib.Core.Option.{Option, none, some}
 use mathlib.Core.List.{List, [], _++_, append-assoc, append-nil}
 use native.Mathlib.Nat.{add-zero, add-assoc, zero-add, sub-zero}
 use native.Mathlib.Omega.{arith}
-use lib.ListN.{length, getD, set, take, drop, replicate, length-set, length-append, length-take, length-drop, length-replicate, take-append-drop}
+use lib.ListN.{length, getD, set, take, drop, length-append, length-take, length-drop, take-append-drop}
 use lib.Seq.{take-at, drop-at, length-take-le, take-all, drop-drop}
 use Rattle.leaves.specs.declared.constant.ConstVal.{ConstVal}
 use Rattle.leaves.specs.declared.constant.ConstVal.the-variants.{Unknown, Quad as QuadV, Bool as BoolV, F64, I32, U32, Fx}
@@ -29,7 +29,7 @@ use Rattle.crystalfold.specs.declared.rules.RuleSet.{RuleSet}
 use Rattle.crystalfold.specs.declared.command.Command.{Command}
 use Rattle.crystalfold.specs.declared.command.Command.the-variants.{Barrier, Load, Compute, Forget, Other}
 use Rattle.crystalfold.proofs.FoldCounts.{at-most-one}
-use Rattle.crystalfold.proofs.Agreement.{Agree, agree-unknown, agree-note}
+use Rattle.crystalfold.proofs.Agreement.{Agree, allUnknown, agree-unknown, agree-note}
 use Rattle.crystalfold.proofs.Effects.{Effect, effect, Within, within}
 
 -- n cells of s, folded from the table t on, as bytes; and how many folds that is
@@ -47,7 +47,6 @@ InRange n s = All (λ (c : Cell). Registers (view c)) (chunks n s)
 pub record Done (s : RuleSet) (bytes₀ : List ℕ) (n : ℕ) (bytes : List ℕ) (held : List ConstVal) (count i : ℕ) : Type 0 where
   pub table : Table
   pub agree : Agree held table
-  pub size : length held ≡ registers
   pub upto : i ≤ n
   pub room : 16 * n ≡ length bytes₀
   pub same : length bytes ≡ length bytes₀
@@ -117,10 +116,10 @@ module _ {s : RuleSet} {bytes₀ : List ℕ} {n : ℕ} {bytes : List ℕ} {held 
 
   turn : (d : Done s bytes₀ n bytes held count i) → i < n → (dst : ℕ) (k : Option Const) (t′ : Table) {held′ : List ConstVal}
       → dstOf (view (cellAt bytes i)) ≡ dst → foldedTo (rulesOf s) (d .table) (view (cellAt bytes i)) ≡ k
-      → knownAfter (rulesOf s) (d .table) (view (cellAt bytes i)) ≡ t′ → Agree held′ t′ → length held′ ≡ registers
+      → knownAfter (rulesOf s) (d .table) (view (cellAt bytes i)) ≡ t′ → Agree held′ t′
       → (count′ : ℕ) → count′ ≡ count + oneIf k
       → Done s bytes₀ n (take (16 * i) bytes ++ (cellOr (cellAt bytes i) dst k ++ drop (16 * i + 16) bytes)) held′ count′ (i + 1)
-  turn d h dst k t′ ed ek et a z count′ ec =
+  turn d h dst k t′ ed ek et a count′ ec =
       let f = rulesOf s in
       let o = 16 * i in
       let m = n - (i + 1) in
@@ -147,7 +146,6 @@ module _ {s : RuleSet} {bytes₀ : List ℕ} {n : ℕ} {bytes : List ℕ} {held 
       record {
         table = t′;
         agree = a;
-        size = z;
         upto = omega arith;
         room = room;
         same = simp (length-append, length-take, length-drop) (omega arith);
@@ -168,64 +166,62 @@ module _ {s : RuleSet} {bytes₀ : List ℕ} {n : ℕ} {bytes : List ℕ} {held 
 
   turn-kept : (d : Done s bytes₀ n bytes held count i) → i < n → (t′ : Table) {held′ : List ConstVal}
       → foldedTo (rulesOf s) (d .table) (view (cellAt bytes i)) ≡ none
-      → knownAfter (rulesOf s) (d .table) (view (cellAt bytes i)) ≡ t′ → Agree held′ t′ → length held′ ≡ registers
+      → knownAfter (rulesOf s) (d .table) (view (cellAt bytes i)) ≡ t′ → Agree held′ t′
       → Done s bytes₀ n bytes held′ count (i + 1)
-  turn-kept d h t′ {held′} ek et a z =
+  turn-kept d h t′ {held′} ek et a =
       subst (λ (x : List ℕ). Done s bytes₀ n x held′ count (i + 1)) (kept (16 * i) bytes)
-      (turn d h (dstOf (view (cellAt bytes i))) none t′ refl ek et a z count (sym (add-zero count)))
+      (turn d h (dstOf (view (cellAt bytes i))) none t′ refl ek et a count (sym (add-zero count)))
 
   -- by command
   module _ (d : Done s bytes₀ n bytes held count i) (h : i < n) {r : Command} (e : r ≡ commandOf (cellAt bytes i)) where
     pub bound : {r′ : Command} → r ≡ r′ → Within r′
     bound = within-now d h e
 
-    in-table : {x : ℕ} → x < registers → x < length held
-    in-table {x} b = let z = d .size in omega arith
-
-    as-long : (x : ℕ) (v : ConstVal) → length (set held x v) ≡ registers
-    as-long x v = length-set held x v ∙ d .size
-
-    pub turn-barrier : r ≡ Barrier → Done s bytes₀ n bytes (replicate registers Unknown) count (i + 1)
-    turn-barrier b =
+    pub turn-barrier : {held′ : List ConstVal} → r ≡ Barrier → Agree held′ unknown → Done s bytes₀ n bytes held′ count (i + 1)
+    turn-barrier b a =
         let (none-folded, after) = effect-now d e b in
-        turn-kept d h unknown none-folded after (agree-unknown registers) (length-replicate registers Unknown)
-
-    pub turn-load : {x : ℕ} {v : ConstVal} → r ≡ Load x v → Done s bytes₀ n bytes (set held x v) count (i + 1)
-    turn-load {x} {v} b =
-        let (none-folded, (k, kv, after)) = effect-now d e b in
-        turn-kept d h (note x (some k) (d .table)) none-folded after (agree-note held (d .table) x v (some k) (in-table (bound b)) kv (d .agree)) (as-long x v)
-
-    pub turn-forget : {x : ℕ} → r ≡ Forget x → Done s bytes₀ n bytes (set held x Unknown) count (i + 1)
-    turn-forget {x} b =
-        let (none-folded, after) = effect-now d e b in
-        turn-kept d h (note x none (d .table)) none-folded after (agree-note held (d .table) x Unknown none (in-table (bound b)) refl (d .agree)) (as-long x Unknown)
+        turn-kept d h unknown none-folded after a
 
     pub turn-other : r ≡ Other → Done s bytes₀ n bytes held count (i + 1)
     turn-other b =
         let (none-folded, after) = effect-now d e b in
-        turn-kept d h (d .table) none-folded after (d .agree) (d .size)
+        turn-kept d h (d .table) none-folded after (d .agree)
 
-    -- v is what the command comes to, or Unknown
-    pub turn-compute : {o x a b : ℕ} {v : ConstVal} {bytes′ : List ℕ} → r ≡ Compute o x a b
-        → Computed (rulesOf s o) (getD held a Unknown) (getD held b Unknown) i x bytes bytes′ v → (count′ : ℕ) → count′ ≡ count + oneIf (writtenOf v)
-        → Done s bytes₀ n bytes′ (set held x v) count′ (i + 1)
-    turn-compute {o} {x} {a} {b} {v} c p count′ ec =
-        let t = d .table in
-        let (folded, dst, after) = effect-now d e c in
-        let w : fold₂ (rulesOf s o) (t a) (t b) ≡ writtenOf v =
-        ap writtenOf (sym (p .value ∙ ap₂ (λ (l r : ConstVal). valueIn (evaluate (rulesOf s o) l r)) (d .agree a) (d .agree b))) in
-        subst (λ (y : List ℕ). Done s bytes₀ n y (set held x v) count′ (i + 1)) (sym (p .put .bytes))
-        (turn d h x (writtenOf v) (note x (writtenOf v) t) dst (folded ∙ w) (after ∙ ap (λ (k : Option Const). note x k t) w)
-        (agree-note held t x v (writtenOf v) (in-table (bound c .0)) (p .put .readBack) (d .agree)) (as-long x v) count′ ec)
+    -- commands that write an entry
+    module _ (size : registers ≤ length held) where
+      in-table : {x : ℕ} → x < registers → x < length held
+      in-table {x} b = omega arith
 
-pub start : (s : RuleSet) (bytes : List ℕ) → Foldable bytes → Done s bytes (length bytes / 16) bytes (replicate registers Unknown) 0 0
-start s bytes h =
+      pub turn-load : {x : ℕ} {v : ConstVal} → r ≡ Load x v → Done s bytes₀ n bytes (set held x v) count (i + 1)
+      turn-load {x} {v} b =
+          let (none-folded, (k, kv, after)) = effect-now d e b in
+          turn-kept d h (note x (some k) (d .table)) none-folded after (agree-note held (d .table) x v (some k) (in-table (bound b)) kv (d .agree))
+
+      pub turn-forget : {x : ℕ} → r ≡ Forget x → Done s bytes₀ n bytes (set held x Unknown) count (i + 1)
+      turn-forget {x} b =
+          let (none-folded, after) = effect-now d e b in
+          turn-kept d h (note x none (d .table)) none-folded after (agree-note held (d .table) x Unknown none (in-table (bound b)) refl (d .agree))
+
+      -- v is what the command comes to, or Unknown
+      pub turn-compute : {o x a b : ℕ} {v : ConstVal} {bytes′ : List ℕ} → r ≡ Compute o x a b
+          → Computed (rulesOf s o) (getD held a Unknown) (getD held b Unknown) i x bytes bytes′ v → (count′ : ℕ) → count′ ≡ count + oneIf (writtenOf v)
+          → Done s bytes₀ n bytes′ (set held x v) count′ (i + 1)
+      turn-compute {o} {x} {a} {b} {v} c p count′ ec =
+          let t = d .table in
+          let (folded, dst, after) = effect-now d e c in
+          let w : fold₂ (rulesOf s o) (t a) (t b) ≡ writtenOf v =
+          ap writtenOf (sym (p .value ∙ ap₂ (λ (l r : ConstVal). valueIn (evaluate (rulesOf s o) l r)) (d .agree a) (d .agree b))) in
+          subst (λ (y : List ℕ). Done s bytes₀ n y (set held x v) count′ (i + 1)) (sym (p .put .bytes))
+          (turn d h x (writtenOf v) (note x (writtenOf v) t) dst (folded ∙ w) (after ∙ ap (λ (k : Option Const). note x k t) w)
+          (agree-note held t x v (writtenOf v) (in-table (bound c .0)) (p .put .readBack) (d .agree)) count′ ec)
+
+pub start : {s : RuleSet} {bytes : List ℕ} {held : List ConstVal} → Foldable bytes → allUnknown held ≡ true → Done s bytes (length bytes / 16) bytes held 0 0
+start {s} {bytes} {held} h u =
     let z : length bytes / 16 ≡ length bytes / 16 - 0 = sym (sub-zero (length bytes / 16)) in
     let whole = h .whole in
     record {
       table = unknown;
-      agree = agree-unknown registers;
-      size = length-replicate registers Unknown;
+      agree = agree-unknown held u;
       upto = omega arith;
       room = omega arith;
       same = refl;

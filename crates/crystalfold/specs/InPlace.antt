@@ -1,9 +1,11 @@
 -- Inner: the fold of a function's instruction cells in place.
 use mathlib.Core.Path.{_≡_}
+use mathlib.Core.Bool.{cond}
 use mathlib.Core.Option.{Option, none, some}
 use mathlib.Core.List.{List, _++_}
 use Prim.Native.Nat.{ℕ, _+_, _*_, _%_}
-use lib.ListN.{length, take, drop, replicate}
+use lib.Dec.{ltb}
+use lib.ListN.{length, set, take, drop, replicate}
 use Rattle.leaves.specs.declared.constant.ConstVal.{ConstVal}
 use Rattle.leaves.specs.Verdicts.{valueIn}
 use Rattle.cells.specs.Lists.{All}
@@ -47,3 +49,10 @@ pub record PutLoad (k dst : ℕ) (before after : List ℕ) (v : ConstVal) : Type
 pub record Computed (m : Option Meaning) (left right : ConstVal) (k dst : ℕ) (before after : List ℕ) (v : ConstVal) : Type 0 where
   pub value : v ≡ valueIn (evaluate m left right)
   pub put : PutLoad k dst before after v
+
+-- ---- inner: the list of written registers
+
+-- a register stands behind the first n, and is counted, where the list has a place for it; else the list stays as it is, as `set` has it
+pub record Listed (n register : ℕ) (before after : List ℕ) (count : ℕ) : Type 0 where
+  pub list : after ≡ set before n register
+  pub counted : count ≡ cond (ltb n (length before)) (n + 1) n

@@ -3,7 +3,7 @@ ghost use mathlib.Core.Path.{_≡_};
 ghost use Prim.Native.Nat.{_/_, _<_};
 ghost use lib.ListN.{length};
 ghost use Rattle.crystalfold.specs.Rules.{rulesOf};
-ghost use Rattle.crystalfold.specs.InPlace.{Foldable, Folded, Computed};
+ghost use Rattle.crystalfold.specs.InPlace.{Foldable, Folded, Computed, Listed};
 use cells::check::REGISTERS;
 use cells::read::CELL;
 use command::Command;
@@ -16,13 +16,22 @@ pub mod command;
 pub mod load;
 pub mod rules;
 
+// The known table has an entry for each register.
+const ENTRIES: usize = REGISTERS;
+
+// How many written registers are listed. Once there are as many, the next barrier makes the whole table anew.
+const LISTED: usize = 64;
+
 // Folds in place each command whose operands are known and that has a result; the answer is how many.
 pub fn fold_constants_and_identities(instrs: &mut [u8], rules: RuleSet) -> usize
     requires { ⌜ Foldable (now instrs) ⌝ }
     ensures { λ r. ⌜ Folded rules (now (instrs .entry)) (now (instrs .exit)) r ⌝ }
 {
     let n = instrs.len() / CELL;
-    let mut known = [ConstVal::Unknown; REGISTERS];
+    let mut known = [ConstVal::Unknown; ENTRIES];
+    // the registers written since the last barrier: the only ones that may be known
+    let mut written = [0usize; LISTED];
+    let mut listed: usize = 0;
     let mut rewrites: usize = 0;
     let mut i: usize = 0;
     while i < n {
@@ -30,16 +39,25 @@ pub fn fold_constants_and_identities(instrs: &mut [u8], rules: RuleSet) -> usize
         i += 1;
         match command::decode_at(instrs, at) {
             Command::Barrier => {
-                known = [ConstVal::Unknown; REGISTERS];
+                if listed == LISTED {
+                    known = [ConstVal::Unknown; ENTRIES];
+                    listed = 0;
+                }
+                while 0 < listed {
+                    listed -= 1;
+                    known[written[listed]] = ConstVal::Unknown;
+                }
             }
             Command::Load(dst, v) => {
                 known[dst] = v;
+                listed = list_register(&mut written, listed, dst);
             }
             Command::Compute(op, dst, lhs, rhs) => {
                 let left = known[lhs];
                 let right = known[rhs];
                 let v = fold_command(instrs, at, rules, op, dst, left, right);
                 known[dst] = v;
+                listed = list_register(&mut written, listed, dst);
                 rewrites += load::one_if(v);
             }
             Command::Forget(dst) => {
@@ -70,4 +88,15 @@ fn fold_command(
     };
     load::put_load(instrs, at, dst, v);
     v
+}
+
+// Lists a register behind the first n. The answer is how many are listed; a full list stays as it is.
+fn list_register(list: &mut [usize], n: usize, register: usize) -> usize
+    ensures { λ r. ⌜ Listed n register (now (list .entry)) (now (list .exit)) r ⌝ }
+{
+    if n < list.len() {
+        list[n] = register;
+        return n + 1;
+    }
+    n
 }
