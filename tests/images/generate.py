@@ -47,10 +47,14 @@ def cleaned(name, image, output, count):
     return good(name, image, cleanup=(output, count), rewrite=(output, count))
 
 
+def folded_image(name, image, output, count):
+    """Changed by CrystalFold alone."""
+    return good(name, image, crystalfold=(output, count), rewrite=(output, count))
+
+
 def folded(name, code, output, count):
     """A function's instruction cells, changed by CrystalFold alone."""
-    answer = (function(output), count)
-    return good(name, function(code), crystalfold=answer, rewrite=answer)
+    return folded_image(name, function(code), function(output), count)
 
 
 def fuller(name, code, output, count):
@@ -448,6 +452,19 @@ GROUPS = [
         kept("barrier RngSeed", "2B010005000000 0E02000300 13030001000100"),
         kept("barrier StateQuery", "2B010005000000 0F02000300 13030001000100"),
         kept("barrier StateUpdate", "2B010005000000 1003000200 13030001000100"),
+        kept("two barriers", "2B010005000000 0A0100 0A0200 13030001000100"),
+        folded("a fold, then a barrier",
+               "2B010005000000 13020001000100 0A0100 13030001000200", "2B010005000000 2B02000A000000 0A0100 13030001000200", 1),
+        good("63 loads, then a barrier", "F0070042 2B000005*63@1 0A0100 13640000000000 1364003E003E00"),
+        good("64 loads, then a barrier", "F0070043 2B000005*64@1 0A0100 13640000000000 1364003F003F00"),
+        good("65 loads, then a barrier", "F0070045 2B000005*65@1 0A0100 13640000000000 1364003F003F00 13640040004000"),
+        good("all registers, then a barrier", "F007000301 2B000005*256@1 0A0100 13640000000000 136400FF00FF00"),
+        folded_image("64 folds, then a barrier",
+                     "F0070045 2B400005 13000040004000*64@1 0A0100 13640000000000 1364003F003F00 13640040004000",
+                     "F0070045 2B400005 2B00000A*64@1 0A0100 13640000000000 1364003F003F00 13640040004000", 64),
+        folded_image("known again behind 65 loads and a barrier",
+                     "F0070046 2B000005*65@1 0A0100 2B010005 13020001000100 0A0200 13640001000200",
+                     "F0070046 2B000005*65@1 0A0100 2B010005 2B02000A 0A0200 13640001000200", 1),
     ]),
     ("fold, registers and chains", [
         folded("register 255",

@@ -1,5 +1,5 @@
 -- Worked: the verdict on a command by the rules of each set (document 02, W5): a leaf's reason as the evaluator hands it on, and the first reason where
--- there are several. One table, and one theorem of all its rows.
+-- there are several. One table, and one theorem of all its rows. Behind it the code's list of written registers.
 use mathlib.Core.Path.{_≡_, refl}
 use mathlib.Core.Bool.{true, false}
 use mathlib.Core.List.{List, [], _∷_, map}
@@ -21,6 +21,7 @@ use Rattle.leaves.specs.Constants.{constEq}
 use Rattle.machine.specs.Evaluate.{evaluate}
 use Rattle.crystalfold.specs.declared.rules.RuleSet.{RuleSet}
 use Rattle.crystalfold.specs.declared.rules.RuleSet.the-variants.{Default, Fuller}
+use Rattle.crystalfold.specs.InPlace.{Listed}
 use Rattle.crystalfold.specs.Rules.{defaultTable, defaultRules, fullerTable, fullerRules, rulesOf}
 
 pub record VerdictCase : Type 0 where
@@ -93,3 +94,17 @@ cases =
 pub cases-hold : map (λ (c : VerdictCase). evaluate (rulesOf (c .rules) (c .command)) (c .left) (c .right)) cases ≡ map (λ (c : VerdictCase). c .verdict) cases
 unfolding defaultRules defaultTable fullerRules fullerTable residue wrap addI32 divI32 modI32 addU32 subU32 modU32 mulFx divFx divF64 floatOf constEq meet join Ieee.eq Ieee.div Ieee.ofBits
 cases-hold = refl
+
+-- the list of written registers, of two places: a first one, a last one, the same again, one more than there is room for; and a list without a place
+pub lists-hold : Listed 0 7 (0 ∷ 0 ∷ []) (7 ∷ 0 ∷ []) 1
+    × Listed 1 255 (7 ∷ 0 ∷ []) (7 ∷ 255 ∷ []) 2
+    × Listed 1 7 (7 ∷ 0 ∷ []) (7 ∷ 7 ∷ []) 2
+    × Listed 2 3 (7 ∷ 255 ∷ []) (7 ∷ 255 ∷ []) 2
+    × Listed 0 7 [] [] 0
+lists-hold = (
+  record { list = refl; counted = refl },
+  record { list = refl; counted = refl },
+  record { list = refl; counted = refl },
+  record { list = refl; counted = refl },
+  record { list = refl; counted = refl },
+)

@@ -19,7 +19,7 @@ pub mod rules;
 // The known table has an entry for each register.
 const ENTRIES: usize = REGISTERS;
 
-// How many written registers are listed. Once there are as many, the next barrier makes the whole table anew.
+// The list of written registers has as many places. Once it is full, the next barrier makes the whole table anew.
 const LISTED: usize = 64;
 
 // Folds in place each command whose operands are known and that has a result; the answer is how many.
@@ -29,7 +29,7 @@ pub fn fold_constants_and_identities(instrs: &mut [u8], rules: RuleSet) -> usize
 {
     let n = instrs.len() / CELL;
     let mut known = [ConstVal::Unknown; ENTRIES];
-    // the registers written since the last barrier: the only ones that may be known
+    // the registers written since the last barrier, as far as there is room: the next one writes these entries alone
     let mut written = [0usize; LISTED];
     let mut listed: usize = 0;
     let mut rewrites: usize = 0;

@@ -110,6 +110,7 @@ pub fn exhaustive() -> Vec<Exhaustive> {
         short_divisions(),
         short_quads(),
         every_fold(),
+        blocks(),
         every_pair(),
         every_byte(),
         short_lists(),
@@ -459,6 +460,41 @@ fn every_fold() -> Exhaustive {
                 computed(command, 3, 1, 255),
                 computed(byte::CmpEq, 4, 3, 1),
             ];
+            one_function(&instrs, &[])
+        }),
+    }
+}
+
+/// Two blocks of writes, loads and folds, a barrier behind each, then a command on each register,
+/// which is folded if a barrier leaves it known. Up to 140 writes in the first block, a few or about
+/// 64 in the second, into registers of their own or into seven.
+fn blocks() -> Exhaustive {
+    let barriers = [label(1), cell(byte::Assert, &[1]), cell(byte::ClockRead, &[2])];
+    let (firsts, seconds, spreads) = (141, [0, 1, 2, 62, 63, 64, 65, 66], [256, 7]);
+    Exhaustive {
+        name: "blocks",
+        more: &[0],
+        run: 0,
+        count: firsts * seconds.len() * spreads.len() * barriers.len(),
+        image: Box::new(move |index| {
+            let (first, index) = (index % firsts, index / firsts);
+            let (second, index) = (seconds[index % seconds.len()], index / seconds.len());
+            let (spread, barrier) = (spreads[index % spreads.len()], index / spreads.len());
+            let mut instrs = Vec::new();
+            for writes in [first, second] {
+                let mut loaded = 0;
+                for at in 0..writes {
+                    let register = ((writes + at) % spread) as u8;
+                    if at % 3 == 1 {
+                        instrs.push(computed(byte::AddI32, register, loaded, loaded));
+                    } else {
+                        instrs.push(load_i32(register, at as i32));
+                        loaded = register;
+                    }
+                }
+                instrs.push(barriers[barrier]);
+            }
+            instrs.extend((0..=255).map(|register| computed(byte::CmpEq, 255, register, register)));
             one_function(&instrs, &[])
         }),
     }

@@ -79,9 +79,14 @@ enum Fault {
     FullerDividesByZeroOfAnotherKind,
     FullerDividesAnotherKindByZero,
     FullerDividesTheUnknownByZero,
+    // Barriers: of what was written since the last one, an entry stays known.
+    ForgetsTheFirst(usize),
+    ForgetsLoadsAlone,
+    ForgetsAllButTheFirst,
+    ForgetsAllButTheLast,
 }
 
-const FAULTS: [Fault; 58] = [
+const FAULTS: [Fault; 63] = [
     Fault::HandsTheImageBack,
     Fault::OnlyPretendsToFold,
     Fault::CountFromNowhere,
@@ -140,10 +145,15 @@ const FAULTS: [Fault; 58] = [
     Fault::FullerDividesByZeroOfAnotherKind,
     Fault::FullerDividesAnotherKindByZero,
     Fault::FullerDividesTheUnknownByZero,
+    Fault::ForgetsTheFirst(64),
+    Fault::ForgetsTheFirst(63),
+    Fault::ForgetsLoadsAlone,
+    Fault::ForgetsAllButTheFirst,
+    Fault::ForgetsAllButTheLast,
 ];
 
 /// Those that the original tells, without the model.
-const BY_THE_ORIGINAL: [Fault; 20] = [
+const BY_THE_ORIGINAL: [Fault; 25] = [
     Fault::DefaultFoldsTruthOrder,
     Fault::CrystalFoldFoldsTruthOrder,
     Fault::DefaultDividesByZero,
@@ -164,6 +174,11 @@ const BY_THE_ORIGINAL: [Fault; 20] = [
     Fault::FullerCleansAgain,
     Fault::FullerSkipsTheSiteCheck,
     Fault::FullerRefusesInBytes,
+    Fault::ForgetsTheFirst(64),
+    Fault::ForgetsTheFirst(63),
+    Fault::ForgetsLoadsAlone,
+    Fault::ForgetsAllButTheFirst,
+    Fault::ForgetsAllButTheLast,
 ];
 
 /// Writes an image over the start of a lent output.
@@ -230,6 +245,45 @@ fn folds_afterwards(image: &[u8], late: fn(u8, Const, Const) -> bool) -> (Vec<u8
     let (bytes, one) = model::passes(image, true, Some(&rules(false)));
     let (bytes, two) = model::passes(&bytes, false, Some(&rules(true)));
     (bytes, one + two)
+}
+
+/// The default rewrite, with a barrier that forgets only some of what was written since the last
+/// one: `forgets` says it of the write at a position, of how many, and whether by a load.
+fn leaves_known(image: &[u8], forgets: impl Fn(usize, usize, bool) -> bool) -> (Vec<u8>, u32) {
+    let (cleaned, mut count) = model::rewritten(Operation::Cleanup, image);
+    let mut bytes = Vec::new();
+    for function in cells::functions(&cleaned) {
+        let mut instrs = function.instrs.to_vec();
+        let mut known = [None; cells::REGISTERS];
+        let mut written = Vec::new();
+        for cell in &mut instrs {
+            if cell[0] <= byte::StateUpdate {
+                for (at, (register, by_load)) in written.iter().enumerate() {
+                    if forgets(at, written.len(), *by_load) {
+                        known[*register] = None;
+                    }
+                }
+                written.clear();
+                continue;
+            }
+            let Some(register) = table::layout(cell[0]).unwrap().dst(cell) else {
+                continue;
+            };
+            let load = leaves::loaded(cell);
+            let folded = match leaves::operand_values(cell, &known) {
+                Some((Some(a), Some(b))) => model::default_rules(cell[0], a, b),
+                _ => None,
+            };
+            known[register] = load.map(|(_, value)| value).or(folded);
+            written.push((register, load.is_some()));
+            if let Some(value) = folded {
+                *cell = leaves::load(register, value);
+                count += 1;
+            }
+        }
+        cells::push_function(&mut bytes, function.name, &instrs, function.events);
+    }
+    (bytes, count)
 }
 
 impl Operations for Wrong {
@@ -477,6 +531,18 @@ impl Operations for Wrong {
                 }
                 return written((bytes, num_rewrites), out);
             }
+            Fault::ForgetsTheFirst(many) => {
+                return written(leaves_known(image, |at, _, _| at < many), out);
+            }
+            Fault::ForgetsLoadsAlone => {
+                return written(leaves_known(image, |_, _, by_load| by_load), out);
+            }
+            Fault::ForgetsAllButTheFirst => {
+                return written(leaves_known(image, |at, _, _| at > 0), out);
+            }
+            Fault::ForgetsAllButTheLast => {
+                return written(leaves_known(image, |at, of, _| at + 1 < of), out);
+            }
             // Elsewhere than in this operation.
             _ => {}
         }
@@ -492,7 +558,8 @@ fn every_wrong_program_is_found() {
         let found = outcome.found.unwrap_or_else(|| panic!("{fault:?} isn't found"));
         let cells = found.image.len().div_ceil(CELL);
         println!("{fault:?}: {}, {cells} cells", found.difference.what);
-        assert!(cells <= 5, "{fault:?} isn't shrunk: {cells} cells");
+        let most = if let Fault::ForgetsTheFirst(many) = fault { many + 5 } else { 5 };
+        assert!(cells <= most, "{fault:?} isn't shrunk: {cells} cells");
         // The default rewrite and the passes are compared with the original's.
         let by_the_original = ["Fuller by the original", "Rewrite", "CrystalFold"]
             .iter()

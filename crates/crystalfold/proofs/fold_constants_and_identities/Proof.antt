@@ -57,17 +57,22 @@ loop2-holds c =
     (λ k. undoing-same (k .1) (k .2) (undoing-listed (since d) (k .0 .left)))
     (c .if1 .came)
 
+-- a turn of its loop: there is a last one listed
+module _ (t : tie.In-loop2 Inv-loop2 μ-loop2 Inv-loop μ-loop) where
+  some-listed : 0 < t .before .loop2 .listed
+  some-listed = omega (arith, t .loop2-test .taken)
+
 array-read-known : tie.Need-array-read-known Inv-loop2 μ-loop2 Inv-loop μ-loop
 array-read-known c = omega (arith, c .before .before .loop2 .inv .few)
 
 mul-known-2 : tie.Need-mul-known-2 Inv-loop2 μ-loop2 Inv-loop μ-loop
-mul-known-2 c = omega (arith, undoing-register (c .before .before .loop2 .inv) (c .before .loop2-test .taken))
+mul-known-2 c = omega (arith, undoing-register (c .before .before .loop2 .inv) (some-listed (c .before)))
 
 array-set-from-known : tie.Need-array-set-from-known Inv-loop2 μ-loop2 Inv-loop μ-loop
-array-set-from-known c = omega (arith, undoing-register (c .before .before .loop2 .inv) (c .before .loop2-test .taken))
+array-set-from-known c = omega (arith, undoing-register (c .before .before .loop2 .inv) (some-listed (c .before)))
 
 loop2-again : tie.Need-loop2-again Inv-loop2 μ-loop2 Inv-loop μ-loop
-loop2-again c = undoing-less (c .before .before .loop2 .inv) (c .before .loop2-test .taken)
+loop2-again c = undoing-less (c .before .before .loop2 .inv) (some-listed (c .before))
 
 loop-again : tie.Need-loop-again Inv-loop2 μ-loop2 Inv-loop μ-loop
 loop-again c =
