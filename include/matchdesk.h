@@ -26,7 +26,7 @@
 #endif
 
 /* The version of this interface: it rises when a function is added or an answer changes. */
-#define MATCHDESK_VERSION 3
+#define MATCHDESK_VERSION 4
 
 /* The bytes of a cell. */
 #define MATCHDESK_CELL 16
@@ -36,7 +36,7 @@
 #define MATCHDESK_MAX_INSTRUCTIONS 2048
 #define MATCHDESK_MAX_EVENTS 1024
 /* Registers are 0 to MATCHDESK_REGISTERS - 1. */
-#define MATCHDESK_REGISTERS 256
+#define MATCHDESK_REGISTERS 1024
 
 /*
  * A call takes no more stack than this, in bytes, whatever the image. Measured, not proved (tests/cinterface/stack.c paints a stack and looks

@@ -9,7 +9,7 @@
 
 #include "matchdesk.h"
 
-/* The cells of a row: as many as a function may have. */
+/* The cells of a row: as many instructions as a function may have. */
 #define CELLS MATCHDESK_MAX_INSTRUCTIONS
 /* The fold of loads may take as many times as long with the longer table. */
 #define MOST 2.0
@@ -95,24 +95,35 @@ static void blocks(size_t n)
 static void blocks_of_1(void) { blocks(1); }
 static void blocks_of_7(void) { blocks(7); }
 static void blocks_of_63(void) { blocks(63); }
-static void blocks_of_64(void) { blocks(64); }
+static void blocks_of_255(void) { blocks(255); }
+static void blocks_of_256(void) { blocks(256); }
+
+/* functions of one load: a head before each */
+static void functions_of_one(void)
+{
+    for (size_t i = 0; i < CELLS; i++)
+        if (i % 2)
+            load_i32(i, i % MATCHDESK_REGISTERS);
+        else
+            put(cell(i, 0xF0), 3, 1);
+}
 
 /* The first row is the one that is judged. */
 static const struct {
     const char *name;
     void (*make)(void);
     size_t folds;
-    size_t functions; /* the cells are those of as many functions */
 } rows[] = {
-    {"loads into one register", loads, 0, 1},
-    {"loads into all registers", loads_into_all, 0, 1},
-    {"a load and folds", folds, CELLS - 1, 1},
-    {"labels", labels, 0, 1},
-    {"a label after each load", blocks_of_1, 0, 1},
-    {"a label after 7 loads", blocks_of_7, 0, 1},
-    {"a label after 63 loads", blocks_of_63, 0, 1},
-    {"a label after 64 loads", blocks_of_64, 0, 1},
-    {"functions of one load", loads, 0, CELLS},
+    {"loads into one register", loads, 0},
+    {"loads into all registers", loads_into_all, 0},
+    {"a load and folds", folds, CELLS - 1},
+    {"labels", labels, 0},
+    {"a label after each load", blocks_of_1, 0},
+    {"a label after 7 loads", blocks_of_7, 0},
+    {"a label after 63 loads", blocks_of_63, 0},
+    {"a label after 255 loads", blocks_of_255, 0},
+    {"a label after 256 loads", blocks_of_256, 0},
+    {"functions of one load", functions_of_one, 0},
 };
 
 static double now(void)
@@ -120,15 +131,6 @@ static double now(void)
     struct timespec t;
     clock_gettime(CLOCK_MONOTONIC, &t);
     return 1e9 * (double)t.tv_sec + (double)t.tv_nsec;
-}
-
-/* Folds the cells of a row by one library, and counts. */
-static size_t fold(int k, size_t functions)
-{
-    size_t count = 0, length = sizeof cells / functions;
-    for (size_t f = 0; f < functions; f++)
-        count += folds_of[k](work[k] + f * length, length);
-    return count;
 }
 
 int main(int arguments, char **argument)
@@ -148,7 +150,7 @@ int main(int arguments, char **argument)
                 int k = (int)(round % 2) ^ turn;
                 memcpy(work[k], cells, sizeof cells);
                 double began = now();
-                size_t count = fold(k, rows[row].functions);
+                size_t count = folds_of[k](work[k], sizeof cells);
                 double took = now() - began;
                 if (took < least[k])
                     least[k] = took;

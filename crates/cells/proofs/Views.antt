@@ -1,4 +1,5 @@
--- Laws of the view of a cell: the cell that loads a constant is viewed as that load, and the registers of a good cell are below the limit.
+-- Laws of the view of a cell: the cell that loads a constant is viewed as that load, the registers of a good cell are below the limit, and a good
+-- head or event is viewed as a barrier.
 use mathlib.Core.Path.{_≡_, refl, ap, ap₂, sym, _∙_, subst}
 use mathlib.Core.Bool.{Bool, true, false, false≢true, cond, _&&_}
 use mathlib.Core.Option.{none, some}
@@ -12,7 +13,7 @@ use Rattle.leaves.specs.Quads.{quadOf}
 use Rattle.leaves.specs.declared.quad.Quad.the-variants.{N, F, T, S}
 use Rattle.cells.specs.Bytes.{byte, half, word, long}
 use Rattle.cells.specs.Cells.{Cell}
-use Rattle.cells.specs.Check.{registers, present, operandOk, operandsOk, isCommand, instructionCheck, rowOk}
+use Rattle.cells.specs.Check.{registers, present, operandOk, operandsOk, isCommand, instructionCheck, eventCheck, headCheck, codeCount, eventCount, maxInstructions, maxEvents, rowOk}
 use Rattle.cells.specs.Ins.{Const, quad, bool, f64, i32, u32, fx, Ins, load, comp, label, jmp, jmpIf, ret, act}
 use Rattle.cells.specs.View.{optional, viewAs, view, loadCell, Below, Registers}
 use Rattle.cells.specs.Table.{Row, row, rows, rowAt, rowOf, classOf, widthOf}
@@ -25,8 +26,8 @@ use Rattle.cells.specs.declared.table.Class.the-variants.{NoCommand, Loa
 use Rattle.cells.specs.declared.refusal.Checked.the-variants.{Good}
 use Rattle.cells.proofs.Every.{at-any}
 use Rattle.cells.proofs.Facts.{and-true, of-T}
-use Rattle.cells.proofs.Rows.{kind-of-number}
-use Rattle.cells.proofs.Checks.{instruction-good}
+use Rattle.cells.proofs.Rows.{kind-of-number, no-class}
+use Rattle.cells.proofs.Checks.{instruction-good, event-good, head-good, four-true}
 
 -- ---- a load cell
 
@@ -140,3 +141,25 @@ view-registers p d c g =
     let n : byte c 0 ≤ 0x51 = leb-true _ _ (and-true (ltb 0 (byte c 0)) (leb (byte c 0) 0x51) (w .0) .1) in
     let h : byte c 0 < 84 = omega arith in
     class-registers (classOf (byte c 0)) c (starts-right (registersOf (classOf (byte c 0))) (rowOf (byte c 0)) c 1 (rows-start (byte c 0) h) (w .1))
+
+-- ---- heads and events
+
+of-class : (c : Cell) {k : Class} → classOf (byte c 0) ≡ k → view c ≡ viewAs k c
+unfolding view
+of-class c e = ap (λ (k : Class). viewAs k c) e
+
+pub head-view : (p d after : ℕ) (c : Cell) → headCheck p d after c ≡ Good → view c ≡ act c none true
+head-view p d after c g =
+    let t = four-true (eqb (byte c 0) 0xf0) (leb (codeCount c) maxInstructions) (leb (eventCount c) maxEvents) (leb (codeCount c + eventCount c) after) (head-good p d after c .0 g .0) in
+    let e : byte c 0 ≡ 0xf0 = eqb-true _ _ (t .0) in
+    of-class c (ap classOf e ∙ no-class 0xf0 (omega arith))
+
+-- a Borrow event's kind is no command, a Write event's is the number of Assert
+pub event-view : (p d : ℕ) (c : Cell) → eventCheck p d c ≡ Good → view c ≡ act c none true
+unfolding classOf rows
+event-view p d c g = by-kind (byte c 0) refl (leb-true _ _ (event-good p d c .0 g .0))
+  where
+    by-kind : (n : ℕ) → byte c 0 ≡ n → n ≤ 1 → view c ≡ act c none true
+    by-kind zero e l = of-class c (ap classOf e)
+    by-kind (suc zero) e l = of-class c (ap classOf e) ∙ ap (λ (n : ℕ). act c none (leb n 0x10)) e
+    by-kind (suc (suc n)) e l = absurd (omega arith)

@@ -15,9 +15,10 @@ use Rattle.cells.specs.declared.refusal.Checked.{Checked}
 use Rattle.cells.specs.declared.refusal.Checked.the-variants.{Refused}
 use Rattle.cells.specs.declared.refusal.Refusal.the-variants.{Head, UnknownCommand, Operand}
 
--- the limits: registers are 0 to 255, at most 2,048 instructions and 1,024 events a function, at most 65,536 bytes an image
+-- the limits: registers are 0 to 1,023 (document 02, W7; document 01 had 0 to 255), at most 2,048 instructions and 1,024 events a function, at
+-- most 65,536 bytes an image
 abbrev pub registers : ℕ
-registers = 256
+registers = 1024
 
 abbrev pub maxInstructions : ℕ
 maxInstructions = 2048

@@ -12,3 +12,4 @@ pub mod View
 pub mod Assembler
 pub mod WellFormed
 pub mod Spans
+pub mod RegisterLimit

@@ -31,8 +31,10 @@ optional c = cond (eqb (byte c 1) 0) none (some (half c 2))
 abbrev pub barrier : Cell → Bool
 barrier c = leb (byte c 0) 0x10
 
+-- What is no command never passes the check of an instruction cell. It is read as a barrier: so a fold over all cells of an image leaves its
+-- heads and events as they are, and knows nothing behind a head
 abbrev pub viewAs : Class → Cell → Ins
-viewAs NoCommand c = act c none (barrier c)
+viewAs NoCommand c = act c none true
 viewAs LoadQ c = load (half c 1) (quad (readQuad (quadOf (byte c 3))))
 viewAs LoadBool c = load (half c 1) (bool (not (eqb (byte c 3) 0)))
 viewAs LoadF64 c = load (half c 1) (f64 (long c 3))

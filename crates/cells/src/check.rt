@@ -12,8 +12,8 @@ ghost use Rattle.cells.specs.Table.{widthOf};
 ghost use Rattle.cells.specs.Answers.{unless as «unlessOf»};
 ghost use Rattle.cells.specs.Check.{operandOk, rowOk, present as «presentOf», instructionCheck, eventCheck, headCheck};
 
-// Registers are 0 to 255.
-pub const REGISTERS: usize = 256;
+// Registers are 0 to 1,023.
+pub const REGISTERS: usize = 1024;
 
 // Limits of a function's instructions and events, and of an image's bytes.
 pub const MAX_INSTRUCTIONS: usize = 2048;

@@ -48,6 +48,10 @@ cases =
     ∷ case (LoadQ 1 3 ∷ LoadF64 1 0 ∷ LoadFx 1 0 ∷ LoadBool 1 0 ∷ LoadQ 1 0 ∷ []) (LoadQ 1 0 ∷ []) 4
     ∷ case (LoadI32 1 5 ∷ LoadI32 2 5 ∷ []) (LoadI32 1 5 ∷ LoadI32 2 5 ∷ []) 0
     ∷ case (LoadI32 1 5 ∷ Label 1 ∷ LoadI32 1 6 ∷ []) (LoadI32 1 5 ∷ Label 1 ∷ LoadI32 1 6 ∷ []) 0
+    -- registers past 255 (document 02, W7), and two whose low bytes are the same
+    ∷ case (LoadI32 1023 5 ∷ LoadBool 1023 1 ∷ []) (LoadBool 1023 1 ∷ []) 1
+    ∷ case (LoadI32 1 5 ∷ LoadI32 257 5 ∷ []) (LoadI32 1 5 ∷ LoadI32 257 5 ∷ []) 0
+    ∷ case (LoadI32 257 5 ∷ LoadI32 1 5 ∷ LoadI32 257 6 ∷ []) (LoadI32 257 5 ∷ LoadI32 1 5 ∷ LoadI32 257 6 ∷ []) 0
     -- LoadU32 neither goes nor lets another go, nor does any other command that writes the register
     ∷ case (LoadI32 1 5 ∷ LoadU32 1 5 ∷ []) (LoadI32 1 5 ∷ LoadU32 1 5 ∷ []) 0
     ∷ case (LoadU32 1 5 ∷ LoadI32 1 5 ∷ []) (LoadU32 1 5 ∷ LoadI32 1 5 ∷ []) 0

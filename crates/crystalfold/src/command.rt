@@ -39,7 +39,7 @@ pub fn decode(c: &[u8]) -> Command
     let op = c[0];
     let dst = read::half(c, 1);
     match table::class_of(op) {
-        Class::NoCommand => act(op, Command::Other),
+        Class::NoCommand => Command::Barrier,
         Class::LoadQ => Command::Load(dst, ConstVal::Quad(read_quad(c[3]))),
         Class::LoadBool => Command::Load(dst, ConstVal::Bool(c[3] != 0)),
         Class::LoadF64 => Command::Load(

@@ -1,4 +1,4 @@
-// CrystalFold: the constant fold over the instruction cells of one function, in place.
+// CrystalFold: the constant fold over instruction cells, in place. Heads and events among them are barriers, so that it may go over a whole image.
 ghost use mathlib.Core.Path.{_≡_};
 ghost use Prim.Native.Nat.{_/_, _<_};
 ghost use lib.ListN.{length};
@@ -19,8 +19,9 @@ pub mod rules;
 // The known table has an entry for each register.
 const ENTRIES: usize = REGISTERS;
 
-// The list of written registers has as many places. Once it is full, the next barrier makes the whole table anew.
-const LISTED: usize = 64;
+// The list of written registers has a place for a quarter of them. Once it is full, the next barrier makes the whole table anew: so it writes no
+// more than 4 entries for each write since the last one.
+const LISTED: usize = REGISTERS / 4;
 
 // Folds in place each command whose operands are known and that has a result; the answer is how many.
 pub fn fold_constants_and_identities(instrs: &mut [u8], rules: RuleSet) -> usize

@@ -6,7 +6,7 @@ use mathlib.Core.Option.{Option, none, some}
 use lib.Dec.{eqb}
 use lib.ListN.{replicate}
 use Rattle.cells.specs.Bytes.{bytes}
-use Rattle.cells.specs.Assembler.{cell, site, noSite, Head, StoreVarSited, MakeRecord, Borrow, Write, LoadI32, Label, function}
+use Rattle.cells.specs.Assembler.{cell, site, noSite, Head, StoreVarSited, MakeRecord, Borrow, Write, LoadI32, AddI32, Assert, JmpIf, Call, Ret, Label, function}
 use Rattle.cells.specs.Cells.{Cell, flat}
 use Rattle.cells.specs.Refusals.{numbered}
 use Rattle.cells.specs.declared.refusal.Numbers.{Numbers}
@@ -43,9 +43,27 @@ table =
     checks [] [] good ∷
     checks (StoreVarSited (site 9) (site 5) ∷ []) (Borrow (site 9) noSite ∷ Write noSite (site 5) ∷ []) good ∷
     checks (MakeRecord (site 5) ∷ []) (Write noSite (site 5) ∷ Write noSite (site 5) ∷ []) good ∷
-    -- register 255 is read, 256 refuses 4
+    -- register 1,023 is read, 1,024 refuses 4; 255, 256 and 257 are registers as others
+    checks (LoadI32 1023 1 ∷ []) [] good ∷
+    wrong (function (LoadI32 1024 1 ∷ []) []) (refused 4 0 1) ∷
     checks (LoadI32 255 1 ∷ []) [] good ∷
-    wrong (function (LoadI32 256 1 ∷ []) []) (refused 4 0 1) ∷
+    checks (LoadI32 256 1 ∷ []) [] good ∷
+    checks (LoadI32 257 1 ∷ []) [] good ∷
+    wrong (function (LoadI32 65535 1 ∷ []) []) (refused 4 0 1) ∷
+    -- in every role: dst, lhs and rhs, src, cond, an optional dst and an optional src
+    checks (AddI32 1023 1023 1023 ∷ Assert 1023 ∷ JmpIf 1023 9 ∷ Call 1023 ∷ Ret 1023 ∷ []) [] good ∷
+    wrong (function (AddI32 1024 0 0 ∷ []) []) (refused 4 0 1) ∷
+    wrong (function (AddI32 0 1024 0 ∷ []) []) (refused 4 0 1) ∷
+    wrong (function (AddI32 0 0 1024 ∷ []) []) (refused 4 0 1) ∷
+    wrong (function (Assert 1024 ∷ []) []) (refused 4 0 1) ∷
+    wrong (function (JmpIf 1024 9 ∷ []) []) (refused 4 0 1) ∷
+    wrong (function (Call 1024 ∷ []) []) (refused 4 0 1) ∷
+    wrong (function (Ret 1024 ∷ []) []) (refused 4 0 1) ∷
+    -- an absent register is zero in both bytes
+    wrong (function (cell (0x0C ∷ 0 ∷ bytes 2 1) ∷ []) []) (refused 4 0 1) ∷
+    wrong (function (cell (0x0C ∷ 0 ∷ bytes 2 256) ∷ []) []) (refused 4 0 1) ∷
+    -- labels and names are no registers
+    checks (Label 1024 ∷ JmpIf 0 65535 ∷ cell (0x4D ∷ bytes 2 65535) ∷ []) [] good ∷
     -- each number at its smallest image
     wrong (0 ∷ []) (refused 1 0 0) ∷
     wrong (cell []) (refused 2 0 0) ∷
@@ -74,7 +92,7 @@ table =
     wrong (cell (0xf0 ∷ bytes 2 7 ++ bytes 2 0 ++ bytes 2 0 ++ 1 ∷ [])) (refused 4 0 0) ∷
     wrong (cell (0xf1 ∷ bytes 2 7 ++ bytes 2 0 ++ bytes 2 0 ++ 1 ∷ [])) (refused 2 0 0) ∷
     wrong (cell (0xf0 ∷ bytes 2 7 ++ bytes 2 1 ++ bytes 2 0 ++ 1 ∷ [])) (refused 2 0 0) ∷
-    wrong (function (LoadI32 256 1 ∷ cell [] ∷ []) []) (refused 4 0 1) ∷
+    wrong (function (LoadI32 1024 1 ∷ cell [] ∷ []) []) (refused 4 0 1) ∷
     checks (StoreVarSited (site 1) noSite ∷ StoreVarSited (site 2) noSite ∷ StoreVarSited (site 2) noSite ∷ StoreVarSited (site 1) noSite ∷ []) [] (refused 11 0 2) ∷
     checks [] (Write (site 9) noSite ∷ Borrow (site 8) noSite ∷ Borrow (site 8) noSite ∷ []) (refused 12 0 9) ∷
     checks [] (Borrow (site 8) noSite ∷ Borrow (site 8) noSite ∷ Write (site 9) noSite ∷ []) (refused 13 0 8) ∷

@@ -1,4 +1,4 @@
--- Worked: runs: short functions whose records are written out by hand from document 01, 'How a function runs', and document 02, W2 and W4. One
+-- Worked: runs: short functions whose records are written out by hand from document 01, 'How a function runs', and document 02, W2, W4 and W7. One
 -- table, and one theorem of all its rows: every cause of an end, every kind of move, and each of the 81 commands.
 use mathlib.Core.Path.{_≡_, refl}
 use mathlib.Core.Bool.{true, false, cond}
@@ -16,6 +16,7 @@ use Rattle.leaves.specs.Float.{floatOf, bitsOf}
 use Rattle.leaves.specs.Quads.{meet, join, quadOf}
 use Rattle.leaves.specs.Constants.{constEq}
 use Rattle.cells.specs.Cells.{Cell}
+use Rattle.cells.specs.Check.{registers}
 use Rattle.cells.specs.Ins.{Const, quad, bool, f64, i32, u32, fx}
 use Rattle.cells.specs.Table.{rows, classOf}
 use Rattle.cells.specs.View.{view, loadCell}
@@ -34,9 +35,13 @@ abbrev pub untouched : ℕ → ℕ → List Value
 untouched x zero = []
 untouched x (suc n) = other x ∷ untouched (suc x) n
 
--- all 256, those from 0 on being these, and the rest as at the start
+-- all registers, those from 0 on being these, and the rest as at the start
 abbrev pub holding : List Value → List Value
-holding vs = vs ++ untouched (length vs) (256 - length vs)
+holding vs = vs ++ untouched (length vs) (registers - length vs)
+
+-- all as at the start but the last one, 1,023
+abbrev pub lastHolding : Value → List Value
+lastHolding v = untouched 0 1023 ++ (v ∷ [])
 
 abbrev pub asStarted : List Value
 asStarted = holding []
@@ -122,8 +127,29 @@ runs =
     (ended lastCell
     (holding (con (quad S) ∷ con (bool true) ∷ con (f64 0x7FF0000000000001) ∷ con (i32 0xFFFFFFFF) ∷ con (u32 7) ∷ con (fx 1500) ∷ []))
     ∷ [])
-    -- the last register
-    ∷ worked (LoadBool 255 0 ∷ Ret 255 ∷ []) stops 2 (ended (returned (some 255)) (untouched 0 255 ++ (con (bool false) ∷ [])) ∷ [])
+    -- the last register as a dst of a load, of a computed command and of an action, and as an optional dst
+    ∷ worked (LoadBool 1023 0 ∷ []) stops 1 (ended lastCell (lastHolding (con (bool false))) ∷ [])
+    ∷ worked (LoadI32 0 5 ∷ AddI32 1023 0 0 ∷ []) stops 2 (ended lastCell (con (i32 5) ∷ untouched 1 1022 ++ (con (i32 10) ∷ [])) ∷ [])
+    ∷ worked (ClockRead 1023 ∷ []) counts 1 (did (ClockRead 1023) asStarted ∷ ended lastCell (lastHolding (con (u32 1))) ∷ [])
+    ∷ worked (Call 1023 ∷ []) counts 1 (did (Call 1023) asStarted ∷ ended lastCell (lastHolding (con (u32 1))) ∷ [])
+    -- as src, of a computed command and of an action, as lhs, as rhs and as cond
+    ∷ worked (LoadBool 1023 0 ∷ unary 0x17 0 1023 ∷ []) stops 2 (ended lastCell (con (bool true) ∷ untouched 1 1022 ++ (con (bool false) ∷ [])) ∷ [])
+    ∷ worked (LoadBool 1023 0 ∷ StoreVar 1023 ∷ []) counts 2
+    (did (StoreVar 1023) (lastHolding (con (bool false))) ∷ ended lastCell (lastHolding (con (bool false))) ∷ [])
+    ∷ worked (LoadI32 0 5 ∷ LoadI32 1023 7 ∷ binary 0x50 0 1023 0 ∷ []) stops 3
+    (ended lastCell (con (i32 2) ∷ untouched 1 1022 ++ (con (i32 7) ∷ [])) ∷ [])
+    ∷ worked (LoadI32 0 7 ∷ LoadI32 1023 5 ∷ binary 0x50 0 0 1023 ∷ []) stops 3
+    (ended lastCell (con (i32 2) ∷ untouched 1 1022 ++ (con (i32 5) ∷ [])) ∷ [])
+    ∷ worked (LoadBool 1023 1 ∷ JmpIf 1023 3 ∷ RetNothing ∷ Label 3 ∷ []) stops 3 (ended lastCell (lastHolding (con (bool true))) ∷ [])
+    -- as an optional src
+    ∷ worked (LoadBool 1023 0 ∷ Ret 1023 ∷ []) stops 2 (ended (returned (some 1023)) (lastHolding (con (bool false))) ∷ [])
+    -- 255, 256 and 1,023 hold three values; 1 and 257 are two registers, as are 255 and 511, whose low bytes are the same
+    ∷ worked (LoadI32 255 1 ∷ LoadI32 256 2 ∷ LoadI32 1023 3 ∷ []) stops 3
+    (ended lastCell (untouched 0 255 ++ con (i32 1) ∷ con (i32 2) ∷ untouched 257 766 ++ (con (i32 3) ∷ [])) ∷ [])
+    ∷ worked (LoadI32 1 5 ∷ LoadI32 257 7 ∷ AddI32 0 1 257 ∷ []) stops 3
+    (ended lastCell (con (i32 12) ∷ con (i32 5) ∷ untouched 2 255 ++ con (i32 7) ∷ untouched 258 766) ∷ [])
+    ∷ worked (LoadBool 511 1 ∷ JmpIf 255 3 ∷ Label 3 ∷ []) stops 2
+    (ended unfitOperand (untouched 0 511 ++ con (bool true) ∷ untouched 512 512) ∷ [])
     -- Label does nothing, in a step
     ∷ worked (Label 1 ∷ LoadBool 1 1 ∷ []) stops 1 []
     ∷ worked (Label 1 ∷ []) stops 1 (ended lastCell asStarted ∷ [])
@@ -356,3 +382,8 @@ runs =
 pub runs-hold : map (λ (w : Worked). after (map view (w .function)) (w .outside) initial (w .steps)) runs ≡ map (λ (w : Worked). w .entries) runs
 unfolding view loadCell classOf rows meet join quadOf exec set put shown compute meaning meanings wrap addI32 subI32 mulI32 divI32 modI32 addU32 subU32 mulU32 divU32 modU32 addFx subFx mulFx divFx floatOf bitsOf constEq Ieee.ofBits Ieee.toBits Ieee.eq Ieee.add Ieee.sub Ieee.mul Ieee.div
 runs-hold = refl
+
+-- "Compared records carry 1,024 registers each" (document 02, W7): every entry does, whatever they hold
+pub shown-length : (r : Regs) → length (shown r) ≡ 1024
+unfolding shown
+shown-length r = refl

@@ -36,7 +36,7 @@ abbrev pub registersFrom : ℕ → ℕ → Regs → List Value
 registersFrom x zero r = []
 registersFrom x (suc n) r = r x ∷ registersFrom (suc x) n r
 
--- "all registers", as an entry of the record shows them: 0 to 255
+-- "all registers", as an entry of the record shows them: 0 to 1,023
 unfoldable pub shown : Regs → List Value
 shown r = registersFrom 0 registers r
 

@@ -13,7 +13,7 @@ use Rattle.cells.specs.declared.refusal.Checked.{Checked}
 use Rattle.cells.specs.declared.refusal.Checked.the-variants.{Good, Refused as RefusedBy}
 use Rattle.image.specs.SiteCheck.{siteAnswer}
 use Rattle.image.proofs.Good.{site-good}
-use Rattle.passes.specs.Passes.{passBytes, passCount, passCheck, answerAs, outputAs, passAnswer, passOutput, report}
+use Rattle.passes.specs.Passes.{passAll, countAll, passBytes, passCount, passCheck, answerAs, outputAs, passAnswer, passOutput, report}
 use Rattle.passes.specs.Steps.{AllWritten}
 use Rattle.passes.specs.declared.Pass.{Pass}
 use Rattle.passes.specs.declared.Rewrite.{Rewrite}
@@ -34,7 +34,7 @@ module _ (p : Pass) (s before : List ℕ) {a : Checked} (e : a ≡ passCheck s (
     pub run-ready : (siteAnswer s ≡ Good) × (length s ≤ length before)
     run-ready = let g = check-good s (length before) .0 (sym e ∙ f) in (site-good s .1 (g .0), g .1)
 
-    module _ (after : List ℕ) (r : Total) (w : AllWritten p (functions (cells s)) before after r) where
+    module _ (after : List ℕ) (r : Total) (w : AllWritten (passAll p (functions (cells s))) (countAll p (functions (cells s))) before after r) where
       run-length : 16 * r .cells ≡ length (passBytes p s)
       run-length = omega (arith, w .count, bytes-length p s (check-good s (length before) .0 (sym e ∙ f) .0))
 

@@ -19,10 +19,12 @@ use Rattle.cells.proofs.Answers.{or-left, or-right, or-both}
 use Rattle.cells.proofs.Cells.{length-flat}
 use Rattle.cells.specs.Lists.{All}
 use Rattle.cells.proofs.Over.{over-take}
+use Rattle.cleanup.specs.Cleanup.{cleanFunction, cleanCount}
 use Rattle.cleanup.proofs.CleanWellFormed.{clean-well-formed, clean-cells-fewer}
 use Rattle.cleanup.proofs.CleanupCounts.{clean-count}
 use Rattle.cleanup.proofs.CleanupPasses.{clean-function-passes}
 use Rattle.crystalfold.specs.Rules.{rulesOf}
+use Rattle.crystalfold.specs.CrystalFold.{foldFunction, foldsOf}
 use Rattle.crystalfold.specs.declared.rules.RuleSet.{RuleSet}
 use Rattle.crystalfold.proofs.FoldCounts.{folds-few}
 use Rattle.crystalfold.proofs.FoldPasses.{fold-function-passes}
@@ -30,7 +32,7 @@ use Rattle.crystalfold.proofs.FoldWellFormed.{fold-well-formed, fold-cells}
 use Rattle.rewrite.specs.AllFunctions.{sumOf}
 use Rattle.rewrite.specs.Claim.{Rewritten}
 use Rattle.rewrite.specs.Preserved.{Preserved}
-use Rattle.rewrite.specs.Rewrite.{rewriteFunction}
+use Rattle.rewrite.specs.Rewrite.{rewriteFunction, rewriteCount}
 use Rattle.rewrite.proofs.EachFunction.{all-each, count-each}
 use Rattle.rewrite.proofs.Records.{set-claim}
 use Rattle.rewrite.proofs.RewriteCounts.{rewrite-cells-fewer, rewrite-few}
@@ -43,13 +45,22 @@ use Rattle.image.proofs.Again.{all-full, image-formed, handed, handed-formed, h
 use Rattle.image.proofs.Good.{site-good}
 use Rattle.passes.specs.Passes.{passAll, countAll, passBytes, passCount, passCheck, answerAs, outputAs, passAnswer, passOutput}
 use Rattle.passes.specs.Contracts.{replyOf, isWritten, lengthWritten, Each, PassDone, RewriteDone}
-use Rattle.passes.specs.Steps.{passOne, countOne}
 use Rattle.passes.specs.declared.Pass.{Pass}
 use Rattle.passes.specs.declared.Pass.the-variants.{Cleanup, CrystalFold, Both}
 use Rattle.passes.specs.declared.Rewrite.{Rewrite}
 use Rattle.passes.specs.declared.Rewrite.the-variants.{Written, Refused}
 
 -- ---- a pass goes function by function, and keeps each well-formed, no longer, and good in its sites
+
+abbrev pub passOne : Pass → Function → Function
+passOne Cleanup f = cleanFunction f
+passOne (CrystalFold k) f = foldFunction (rulesOf k) f
+passOne (Both k) f = rewriteFunction (rulesOf k) f
+
+abbrev pub countOne : Pass → Function → ℕ
+countOne Cleanup f = cleanCount (f .code)
+countOne (CrystalFold k) f = foldsOf (rulesOf k) (f .code)
+countOne (Both k) f = rewriteCount (rulesOf k) (f .code)
 
 pub pass-map : (p : Pass) (fs : List Function) → passAll p fs ≡ map (passOne p) fs
 pass-map Cleanup fs = refl

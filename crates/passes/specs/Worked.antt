@@ -1,5 +1,5 @@
 -- Worked: the rewriting operations on images and lent outputs written out by hand from document 01 ('Answers of the operations', 'Cells on
--- either edge') and document 02 (W2, W4): the reply, and every byte of the output at exit.
+-- either edge') and document 02 (W2, W4, W7): the reply, and every byte of the output at exit.
 use mathlib.Core.Path.{_≡_, refl}
 use mathlib.Core.Bool.{true, false}
 use mathlib.Core.List.{List, [], _∷_, _++_, map}
@@ -75,6 +75,21 @@ quotients = function (LoadF64 1 0x3FF0000000000000 ∷ LoadF64 2 0x8000000000000
 abbrev pub quotientsFolded : List ℕ
 quotientsFolded = Head 7 5 0 ++ LoadF64 1 0x3FF0000000000000 ++ LoadF64 2 0x8000000000000000 ++ LoadF64 3 0xFFF0000000000000 ++ LoadF64 4 0x7FF0000000000000 ++ Ret 4
 
+-- LoadI32 r257 5, LoadI32 r1 7, AddI32 r1023 r257 r1 (12), Ret r1023
+abbrev pub apart : List ℕ
+apart = function (LoadI32 257 5 ∷ LoadI32 1 7 ∷ AddI32 1023 257 1 ∷ Ret 1023 ∷ []) []
+
+abbrev pub apartFolded : List ℕ
+apartFolded = Head 7 4 0 ++ LoadI32 257 5 ++ LoadI32 1 7 ++ LoadI32 1023 12 ++ Ret 1023
+
+-- what a function knows at its end the next one doesn't: MakeRecord of a site, LoadI32 r1 5 and events; then AddI32 r2 r1 r1, LoadI32 r1 6,
+-- AddI32 r2 r1 r1, of which the second is folded
+abbrev pub unlearned : List ℕ → List (List ℕ) → List ℕ
+unlearned write es = function (MakeRecord write ∷ LoadI32 1 5 ∷ []) es ++ function (AddI32 2 1 1 ∷ LoadI32 1 6 ∷ AddI32 2 1 1 ∷ []) []
+
+abbrev pub unlearnedFolded : List ℕ → List (List ℕ) → List ℕ
+unlearnedFolded write es = function (MakeRecord write ∷ LoadI32 1 5 ∷ []) es ++ function (AddI32 2 1 1 ∷ LoadI32 1 6 ∷ LoadI32 2 12 ∷ []) []
+
 abbrev pub operations : List OperationCase
 operations =
     -- the printed example, by each operation
@@ -115,6 +130,18 @@ operations =
     ∷ operation whole quotients (lent 96) (success 96 0 false) quotients
     ∷ operation (CrystalFold Default) quotients (lent 96) (success 96 0 false) quotients
     ∷ operation fuller quotients (lent 112) (success 96 2 true) (quotientsFolded ++ lent 16)
+    -- registers past 255, and two whose low bytes are the same; 1,023 is read and 1,024 refuses 4
+    ∷ operation whole apart (lent 96) (success 80 1 true) (apartFolded ++ lent 16)
+    ∷ operation (CrystalFold Default) apart (lent 80) (success 80 1 true) apartFolded
+    ∷ operation fuller apart (lent 80) (success 80 1 true) apartFolded
+    ∷ operation Cleanup apart (lent 80) (success 80 0 false) apart
+    ∷ refuses whole (function (LoadI32 1023 5 ∷ LoadI32 1024 5 ∷ []) []) (lent 48) 4 0 2
+    ∷ refuses fuller (function (LoadI32 1023 5 ∷ LoadI32 1024 5 ∷ []) []) (lent 48) 4 0 2
+    -- function by function: nothing is known where one starts, with no event before it, a Borrow event or a Write event
+    ∷ operation whole (unlearned noSite []) (lent 112) (success 112 1 true) (unlearnedFolded noSite [])
+    ∷ operation (CrystalFold Default) (unlearned noSite []) (lent 112) (success 112 1 true) (unlearnedFolded noSite [])
+    ∷ operation whole (unlearned noSite (Borrow noSite noSite ∷ [])) (lent 128) (success 128 1 true) (unlearnedFolded noSite (Borrow noSite noSite ∷ []))
+    ∷ operation fuller (unlearned (site 5) (Write noSite (site 5) ∷ [])) (lent 128) (success 128 1 true) (unlearnedFolded (site 5) (Write noSite (site 5) ∷ []))
     -- what the default rewrite does the fuller one does too; it refuses as the default one
     ∷ operation fuller example (lent 64) (success 64 1 true) folded
     ∷ operation fuller (function (LoadI32 1 5 ∷ LoadBool 1 1 ∷ []) []) (lent 48) (success 32 1 true) (Head 7 1 0 ++ LoadBool 1 1 ++ lent 16)

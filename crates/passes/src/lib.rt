@@ -15,9 +15,10 @@ ghost use Rattle.cells.specs.Cells.{cells};
 ghost use Rattle.cells.specs.Functions.{functions};
 ghost use Rattle.cells.specs.declared.refusal.Checked.the-variants.{Good};
 ghost use Rattle.image.specs.SiteCheck.{siteAnswer};
-ghost use Rattle.passes.specs.Passes.{passCheck, passAnswer, passOutput};
+ghost use Rattle.passes.specs.Passes.{passAll, countAll, passCheck, passAnswer, passOutput};
 ghost use Rattle.passes.specs.Contracts.{PassDone, RewriteDone};
-ghost use Rattle.passes.specs.Steps.{AllWritten};
+ghost use Rattle.passes.specs.Steps.{AllWritten, Folding, FoldedStart};
+ghost use Rattle.rewrite.specs.AllFunctions.{cleanAll, cleanCountAll};
 
 // Which passes an operation runs, the fold with its rules: cleanup, CrystalFold, or both in this order.
 pub enum Pass {
@@ -115,10 +116,28 @@ pub struct Total {
     pub rewrites: usize,
 }
 
-// Every function, rewritten, one after another.
+// Every function, rewritten, one after another: cleanup over every function, then CrystalFold over every function, as the Rust.
 fn rewrite_functions(pass: Pass, image: &[u8], out: &mut [u8]) -> Total
     requires { ⌜ (siteAnswer (now image) ≡ Good) × (length (now image) ≤ length (now out)) ⌝ }
-    ensures { λ r. ⌜ AllWritten pass (functions (cells (now (image .entry)))) (now (out .entry)) (now (out .exit)) r ⌝ }
+    ensures { λ r. ⌜ AllWritten (passAll pass (functions (cells (now (image .entry))))) (countAll pass (functions (cells (now (image .entry))))) (now (out .entry)) (now (out .exit)) r ⌝ }
+{
+    match pass {
+        Pass::Cleanup => clean_functions(image, out),
+        Pass::CrystalFold(rules) => {
+            let t = copy_functions(image, out);
+            fold_functions(rules, t, out)
+        }
+        Pass::Both(rules) => {
+            let t = clean_functions(image, out);
+            fold_functions(rules, t, out)
+        }
+    }
+}
+
+// Cleanup of every function, each written behind the one before.
+fn clean_functions(image: &[u8], out: &mut [u8]) -> Total
+    requires { ⌜ (siteAnswer (now image) ≡ Good) × (length (now image) ≤ length (now out)) ⌝ }
+    ensures { λ r. ⌜ AllWritten (cleanAll (functions (cells (now (image .entry))))) (cleanCountAll (functions (cells (now (image .entry))))) (now (out .entry)) (now (out .exit)) r ⌝ }
 {
     let total = image.len() / CELL;
     let mut at: usize = 0;
@@ -131,13 +150,7 @@ fn rewrite_functions(pass: Pass, image: &[u8], out: &mut [u8]) -> Total
         let b = f.events;
         let e = f.end;
         let o = CELL * to;
-        let r = function::rewrite(
-            pass,
-            &image[h..a],
-            &image[a..b],
-            &image[b..e],
-            &mut out[o..],
-        );
+        let r = function::clean(&image[h..a], &image[a..b], &image[b..e], &mut out[o..]);
         let n = r.instructions;
         let m = r.events;
         let w = r.rewrites;
@@ -148,5 +161,32 @@ fn rewrite_functions(pass: Pass, image: &[u8], out: &mut [u8]) -> Total
     Total {
         cells: to,
         rewrites,
+    }
+}
+
+// The functions as they are.
+fn copy_functions(image: &[u8], out: &mut [u8]) -> Total
+    requires { ⌜ (siteAnswer (now image) ≡ Good) × (length (now image) ≤ length (now out)) ⌝ }
+    ensures { λ r. ⌜ AllWritten (functions (cells (now (image .entry)))) 0 (now (out .entry)) (now (out .exit)) r ⌝ }
+{
+    bytes::copy(image, out);
+    Total {
+        cells: image.len() / CELL,
+        rewrites: 0,
+    }
+}
+
+// CrystalFold of the functions that stand at the start of the output, in one go over their cells: a head is a barrier, so that a function starts
+// with nothing known.
+fn fold_functions(rules: RuleSet, t: Total, out: &mut [u8]) -> Total
+    requires { ⌜ Folding t (now out) ⌝ }
+    ensures { λ r. ⌜ FoldedStart rules t (now (out .entry)) (now (out .exit)) r ⌝ }
+{
+    let n = t.cells;
+    let e = CELL * n;
+    let folds = crystalfold::fold_constants_and_identities(&mut out[..e], rules);
+    Total {
+        cells: n,
+        rewrites: t.rewrites + folds,
     }
 }

@@ -4,6 +4,7 @@ pub mod Needed
 pub mod RewritePasses
 pub mod RewriteCounts
 pub mod EachFunction
+pub mod FoldImage
 pub mod RewritePreserves
 pub mod RustOrder
 pub mod WithoutReasons

@@ -1,10 +1,10 @@
--- Worked: Document 01's starred cases ('Cells on either edge') and its printed example, through the whole rewrite with the default rules; and document
--- 02's truth-order quads (W2) and divisions of an f64 by zero (W4), through both rewrites, the latter also by what is recorded before and after: a
--- table each, and one theorem of all its rows.
+-- Worked: Document 01's starred cases ('Cells on either edge') and its printed example, and registers past 255 (document 02, W7), through the whole
+-- rewrite with the default rules; and document 02's truth-order quads (W2) and divisions of an f64 by zero (W4), through both rewrites, the latter also
+-- by what is recorded before and after: a table each, and one theorem of all its rows.
 use mathlib.Core.Path.{_≡_, refl}
 use mathlib.Core.Bool.{true, false}
 use mathlib.Core.Option.{some}
-use mathlib.Core.List.{List, [], _∷_, map}
+use mathlib.Core.List.{List, [], _∷_, _++_, map}
 use Prim.Native.Nat.{ℕ}
 use lib.Ieee as Ieee
 use Rattle.leaves.specs.declared.quad.Quad.the-variants.{N, F, T, S}
@@ -18,7 +18,8 @@ use Rattle.cells.specs.Cells.{Cell}
 use Rattle.cells.specs.Ins.{Const, quad, bool, f64, i32, u32, fx}
 use Rattle.cells.specs.Table.{rows, classOf}
 use Rattle.cells.specs.View.{view, loadCell}
-use Rattle.cells.specs.Assembler.{Label, Jmp, Ret, LoadBool, LoadF64, LoadI32, LoadQ, LoadU32, binary, unary, AddI32, CmpEq, DivF64, SubF64, QAnd, QTruthAnd, QTruthImpl, QTruthNot, QTruthOr, ClockRead, StoreVar}
+use Rattle.cells.specs.Bytes.{bytes}
+use Rattle.cells.specs.Assembler.{cell, Label, Jmp, Ret, LoadBool, LoadF64, LoadI32, LoadQ, LoadU32, binary, unary, AddI32, CmpEq, DivF64, SubF64, QAnd, QTruthAnd, QTruthImpl, QTruthNot, QTruthOr, ClockRead, StoreVar}
 use Rattle.machine.specs.Values.{con, other, set, put, shown}
 use Rattle.machine.specs.Compute.{meanings, meaning, compute}
 use Rattle.machine.specs.Run.{returned, Entry, did, ended, exec, after}
@@ -68,7 +69,26 @@ cases =
     ∷ case (LoadU32 1 5 ∷ LoadU32 1 5 ∷ []) (LoadU32 1 5 ∷ LoadU32 1 5 ∷ []) 0
     -- the printed example: LoadI32 r1 5, AddI32 r2 r1 r1, Ret r2
     ∷ case (LoadI32 1 5 ∷ AddI32 2 1 1 ∷ Ret 2 ∷ []) (LoadI32 1 5 ∷ LoadI32 2 10 ∷ Ret 2 ∷ []) 1
+    -- folds through registers past 255, the last one as lhs, as rhs and as dst
+    ∷ case (LoadI32 256 5 ∷ LoadI32 1023 7 ∷ AddI32 511 1023 256 ∷ AddI32 1023 256 1023 ∷ AddI32 255 511 1023 ∷ Ret 255 ∷ [])
+    (LoadI32 256 5 ∷ LoadI32 1023 7 ∷ LoadI32 511 12 ∷ LoadI32 1023 12 ∷ LoadI32 255 24 ∷ Ret 255 ∷ [])
+    3
+    -- 1 and 257 are two registers: what is known of the one isn't known of the other, and a load of the one leaves the other
+    ∷ case (LoadI32 1 5 ∷ LoadI32 257 7 ∷ AddI32 2 1 257 ∷ AddI32 258 257 257 ∷ AddI32 2 2 258 ∷ [])
+    (LoadI32 1 5 ∷ LoadI32 257 7 ∷ LoadI32 2 12 ∷ LoadI32 258 14 ∷ LoadI32 2 26 ∷ [])
+    3
+    ∷ case (LoadI32 1 5 ∷ AddI32 2 257 257 ∷ AddI32 3 257 1 ∷ []) (LoadI32 1 5 ∷ AddI32 2 257 257 ∷ AddI32 3 257 1 ∷ []) 0
+    ∷ case (LoadI32 257 5 ∷ AddI32 2 1 1 ∷ AddI32 3 1 257 ∷ []) (LoadI32 257 5 ∷ AddI32 2 1 1 ∷ AddI32 3 1 257 ∷ []) 0
+    -- and so is what another command writes: LoadVar forgets its own dst alone
+    ∷ case (LoadI32 1 5 ∷ LoadI32 257 7 ∷ LoadVar 257 ∷ AddI32 2 1 1 ∷ AddI32 3 257 257 ∷ [])
+    (LoadI32 1 5 ∷ LoadI32 257 7 ∷ LoadVar 257 ∷ LoadI32 2 10 ∷ AddI32 3 257 257 ∷ [])
+    1
+    -- a load goes where its next cell loads the same register, in both bytes
+    ∷ case (LoadI32 1 5 ∷ LoadI32 257 5 ∷ LoadI32 257 6 ∷ Ret 257 ∷ []) (LoadI32 1 5 ∷ LoadI32 257 6 ∷ Ret 257 ∷ []) 1
     ∷ []
+  where
+    LoadVar : ℕ → Cell
+    LoadVar d = cell (0x2F ∷ bytes 2 d ++ bytes 2 9)
 
 pub cases-hold :
     map (λ (c : FunctionCase). case (c .sent) (rewriteCode defaultRules (c .sent)) (rewriteCount defaultRules (c .sent))) cases ≡ cases

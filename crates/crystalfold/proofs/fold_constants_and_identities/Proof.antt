@@ -6,6 +6,7 @@ use native.Mathlib.Omega.{arith}
 use lib.ListN.{length}
 use denote.Ref.{now}
 use borrow.Author.Needs.{needs}
+use Rattle.cells.specs.Check.{registers}
 use Rattle.machine.specs.Values.{writtenOf}
 use Rattle.crystalfold.specs.declared.command.Command.{Command}
 use Rattle.crystalfold.specs.declared.command.Command.the-variants.{Compute}
@@ -16,16 +17,20 @@ use Rattle.crystalfold.proofs.Written.{Since, since-none, since-forget,
 use Rattle.crystalfold.proofs.fold_constants_and_identities.Statement.{statement}
 use Rattle.crystalfold.proofs.fold_constants_and_identities.Tie as tie
 
+-- of the list of written registers
+abbrev places : ℕ
+places = registers / 4
+
 -- the loop of a barrier, which undoes what is listed
 abbrev Inv-loop2 : tie.InvT-loop2
-Inv-loop2 instrs rules n known₀ written listed₀ rewrites i at known listed = Undoing 64 written listed known
+Inv-loop2 instrs rules n known₀ written listed₀ rewrites i at known listed = Undoing places written listed known
 
 abbrev μ-loop2 : tie.MeasureT-loop2
 μ-loop2 instrs rules n known₀ written listed₀ rewrites i at known listed = listed
 
 abbrev Inv-loop : tie.InvT-loop
 Inv-loop instrs₀ rules n known₀ written₀ listed₀ rewrites₀ i₀ instrs known written listed rewrites i =
-    Done rules instrs₀ n instrs known rewrites i × Since 64 written listed known
+    Done rules instrs₀ n instrs known rewrites i × Since places written listed known
 
 abbrev μ-loop : tie.MeasureT-loop
 μ-loop instrs₀ rules n known₀ written₀ listed₀ rewrites₀ i₀ instrs known written listed rewrites i = n - i
@@ -36,7 +41,7 @@ module _ (d : tie.After-decode-at Inv-loop2 μ-loop2 Inv-loop μ-loop) where
       (d .before .before .before .loop .instrs) (d .before .before .before .loop .known) (d .before .before .before .loop .rewrites) (d .before .before .before .loop .i)
   inv = d .before .before .before .loop .inv .0
 
-  since : Since 64 (d .before .before .before .loop .written) (d .before .before .before .loop .listed) (d .before .before .before .loop .known)
+  since : Since places (d .before .before .before .loop .written) (d .before .before .before .loop .listed) (d .before .before .before .loop .known)
   since = d .before .before .before .loop .inv .1
 
   left : d .before .before .before .loop .i < length (now (d .before .before .before .before .before .args .instrs)) / 16

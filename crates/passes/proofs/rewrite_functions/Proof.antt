@@ -1,89 +1,56 @@
--- `passes::rewrite_functions` meets its contract.
-use Prim.Native.Nat.{_+_, _-_, _*_, _≤_}
-use native.Mathlib.Omega.{arith}
+-- `passes::rewrite_functions` meets its contract, pass by pass.
 use denote.Ref.{now}
-use lib.ListN.{length}
-use Rattle.cells.specs.Check.{maxImage}
-use Rattle.passes.proofs.WholeImage.{Walked, short-image, walked-start, room, turn-few, walked-next, walked-end}
+use Rattle.passes.proofs.WholeImage.{cleaned-ready, cleaned-folded, copied-ready, copied-folded}
 use borrow.Author.Needs.{needs}
 use Rattle.passes.proofs.rewrite_functions.Statement.{statement}
 use Rattle.passes.proofs.rewrite_functions.Tie as tie
-use Rattle.passes.proofs.rewrite_functions.Reads as reads
-use Rattle.passes.proofs.rewrite_functions.Lts as lts
-use Rattle.cells.proofs.walk.function_at.Reads as function-at-reads
-use Rattle.passes.proofs.function.rewrite.Reads as rewrite-reads
 
-abbrev Inv-loop : tie.InvT-loop
-Inv-loop pass image out₀ total at₀ to₀ rewrites₀ out at to rewrites = Walked pass image out₀ out at to rewrites
+fold-functions-requires : tie.Need-fold-functions-requires
+fold-functions-requires c κs =
+    let k = c .before .before .before in
+    let q = k .before .before .before .before .before .before .before in
+    copied-ready (now (q .args .image)) (now (q .args .out)) (q .pre .0) (q .pre .1) (k .copy-functions .ensures)
 
-abbrev μ-loop : tie.MeasureT-loop
-μ-loop pass image out₀ total at₀ to₀ rewrites₀ out at to rewrites = total - at
+fold-functions-requires-2 : tie.Need-fold-functions-requires-2
+fold-functions-requires-2 c κs =
+    let k = c .before .before .before in
+    let q = k .before .before .before .before .before .before .before in
+    cleaned-ready (now (q .args .image)) (now (q .args .out)) (q .pre .0) (q .pre .1) (k .clean-functions2 .ensures)
 
-loop-holds : tie.Need-loop-holds Inv-loop μ-loop
-loop-holds c = walked-start (c .before .before .args .pass) (now (c .before .before .args .image)) (now (c .before .before .args .out)) (c .before .before .pre .0)
+returns : tie.Need-returns
+returns c = rw (c .before .before .before .before .enum-told .given .1) (c .before .before .clean-functions .ensures)
 
--- once a function is written: where the walk answered, the loop, the start
-abbrev walked : tie.After-rewrite Inv-loop μ-loop → tie.After-function-at Inv-loop μ-loop
-walked k = k .before .before .before .before .before
+returns-2 : tie.Need-returns-2
+returns-2 c =
+    let w = c .before .before in
+    let k = w .before .before .before .before in
+    let q = k .before .before .before .before .before .before .before in
+    rw (k .before .before .before .pass .given .1)
+    (copied-folded (now (q .args .image)) (now (q .args .out)) (q .pre .0) (q .pre .1) (k .copy-functions .ensures) (w .fold-functions .ensures))
 
-abbrev turn : tie.After-rewrite Inv-loop μ-loop → tie.At-loop Inv-loop μ-loop
-turn k = walked k .before .before
-
-abbrev start : tie.After-rewrite Inv-loop μ-loop → tie.Start Inv-loop μ-loop
-start k = turn k .before .before .before
-
--- what it takes and counts
-few-at : (k : tie.After-rewrite Inv-loop μ-loop) → (16 * (turn k .loop .at + 1 + k .rewrite .result .instructions + k .rewrite .result .events) ≤ walked k .function-at .result .end)
-    × (16 * (turn k .loop .at + k .rewrite .result .rewrites) ≤ walked k .function-at .result .end) × (walked k .function-at .result .end ≤ length (now (start k .args .image)))
-    × (length (now (start k .args .image)) ≤ maxImage)
-few-at k =
-    let t = turn-few (turn k .loop .inv) (walked k .function-at .ensures) (start k .pre .1) _ (k .rewrite .result) (k .rewrite .ensures) in
-    (t .0, t .1, walked k .function-at .ensures .within, short-image (now (start k .args .image)) (start k .pre .0))
-
-rewrite-requires : tie.Need-rewrite-requires Inv-loop μ-loop
-rewrite-requires c κs =
-    let f = c .before .before .before .before in
-    let l = f .before .before in
-    room (l .loop .inv) (f .function-at .ensures) (l .before .before .before .pre .1)
-
-loop-again : tie.Need-loop-again Inv-loop μ-loop
-loop-again c =
-    let k = c .before .before in
-    walked-next (turn k .loop .inv) (walked k .function-at .ensures) (start k .pre .1) _ (k .rewrite .result) (k .rewrite .ensures)
-
-returns : tie.Need-returns Inv-loop μ-loop
-returns c =
-    let l = c .before in
-    let q = l .before .before .before in
-    walked-end (q .args .pass) (now (q .args .image)) (now (q .args .out)) (l .loop .out) (l .loop .at) (l .loop .to) (l .loop .rewrites) (l .loop .inv) (c .loop-test .left)
+returns-3 : tie.Need-returns-3
+returns-3 c =
+    let w = c .before .before in
+    let k = w .before .before .before .before in
+    let q = k .before .before .before .before .before .before .before in
+    rw (k .before .before .before .pass2 .given .1)
+    (cleaned-folded (now (q .args .image)) (now (q .args .out)) (q .pre .0) (q .pre .1) (k .clean-functions2 .ensures) (w .fold-functions2 .ensures))
 
 pub rewrite-functions-spec : {M : Type 1} → statement M
 rewrite-functions-spec =
     tie.close
     (tie.spec
-    Inv-loop
-    μ-loop
-    loop-holds
+    (λ c. search needs)
     (λ c κs. search needs)
     (λ c. search needs)
+    (λ c κs. search needs)
+    fold-functions-requires
     (λ c. search needs)
+    (λ c κs. search needs)
+    fold-functions-requires-2
     (λ c. search needs)
+    returns
     (λ c. search needs)
+    returns-2
     (λ c. search needs)
-    (λ c. search needs)
-    (λ c. search needs)
-    (λ c. search needs)
-    (λ c. search needs)
-    (λ c. search needs)
-    (λ c. search needs)
-    (λ c. search needs)
-    (λ c. search needs)
-    rewrite-requires
-    (λ c. search needs)
-    (λ c. omega (arith, few-at (c .before .before)))
-    (λ c. omega (arith, few-at (c .before .before)))
-    (λ c. omega (arith, few-at (c .before .before)))
-    (λ c. search needs)
-    loop-again
-    (λ c. search needs)
-    returns)
+    returns-3)

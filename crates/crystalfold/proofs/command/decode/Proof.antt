@@ -39,14 +39,14 @@ returns-15 : tie.Need-returns-15
 returns-15 c =
     let d = c .before .before .before in
     let s = now (d .before .before .before .before .args .c) in
-    c .act3 .ensures ∙ ap (λ (n : ℕ). acting (leb (byte s 0) 0x10) (Forget n)) (d .before .half .ensures .0) ∙ is d (c .before .enum-told15 .given .1)
+    c .act2 .ensures ∙ ap (λ (n : ℕ). acting (leb (byte s 0) 0x10) (Forget n)) (d .before .half .ensures .0) ∙ is d (c .before .enum-told15 .given .1)
 
 returns-16 : tie.Need-returns-16
 returns-16 c =
     let d = c .before .before .before .before .before .before in
     let s = now (d .before .before .before .before .args .c) in
     let o = c .before .optional-dst .ensures ∙ ap (optionalDst (byte s 1)) (c .before .before .half6 .ensures .0) ∙ sym (forget-optional (eqb (byte s 1) 0) (half s 2)) in
-    c .act4 .ensures ∙ ap (acting (leb (byte s 0) 0x10)) o ∙ is d (c .before .before .before .before .enum-told16 .given .1)
+    c .act3 .ensures ∙ ap (acting (leb (byte s 0) 0x10)) o ∙ is d (c .before .before .before .before .enum-told16 .given .1)
 
 pub decode-spec : {M : Type 1} → statement M
 decode-spec =
@@ -56,7 +56,6 @@ decode-spec =
     (λ c κs. search needs)
     (λ c κs. search needs)
     (λ c. search needs)
-    (λ c κs. search needs)
     (λ c. search needs)
     (λ c. search needs)
     (λ c κs. search needs)
@@ -95,7 +94,7 @@ decode-spec =
     (λ c κs. search needs)
     (λ c κs. search needs)
     (λ c κs. search needs)
-    (λ c. c .act .ensures ∙ is (c .before .before .before) (c .before .enum-told .given .1))
+    (λ c. is (c .before .before) (c .enum-told .given .1))
     (λ c. is-load (c .before .before .before .before) (c .before .before .enum-told2 .given .1) refl (ap QuadV (c .read-quad .ensures)))
     (λ c. is-load (c .before .before .before) (c .before .enum-told3 .given .1) refl refl)
     (λ c. is-load (c .before .before .before .before) (c .before .before .enum-told4 .given .1) refl (ap F64 (c .of-bits .ensures ∙ ap floatOf (c .before .long .ensures))))
@@ -108,6 +107,6 @@ decode-spec =
     (λ c. is (c .before .before) (c .enum-told11 .given .1))
     (λ c. is (c .before .before) (c .enum-told12 .given .1))
     (λ c. is (c .before .before) (c .enum-told13 .given .1))
-    (λ c. c .act2 .ensures ∙ is (c .before .before .before) (c .before .enum-told14 .given .1))
+    (λ c. c .act .ensures ∙ is (c .before .before .before) (c .before .enum-told14 .given .1))
     returns-15
     returns-16)
