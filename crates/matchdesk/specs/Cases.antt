@@ -56,12 +56,19 @@ quads = Head 7 3 0 ∷ LoadQ 1 1 ∷ QTruthNot 2 1 ∷ Ret 2 ∷ []
 zeros : List Cell
 zeros = Head 7 3 0 ∷ LoadF64 1 0x8000000000000000 ∷ DivF64 2 1 1 ∷ Ret 2 ∷ []
 
--- `good`; `refused 1 0 0`; `refused 2 0 0`; `rewrites 1`, `rewrites 0`
+-- LoadI32 r257 5, LoadI32 r1 7, AddI32 r1023 r257 r1, Ret r1023; and LoadI32 r1024 5
+apart : List Cell
+apart = Head 7 4 0 ∷ LoadI32 257 5 ∷ LoadI32 1 7 ∷ AddI32 1023 257 1 ∷ Ret 1023 ∷ []
+
+beyond : List Cell
+beyond = Head 7 1 0 ∷ LoadI32 1024 5 ∷ []
+
+-- `good`; `refused`, a number, 0 and a detail, as `refused 1 0 0`; `rewrites 1`, `rewrites 0`
 good : List ℕ
 good = 103 ∷ 111 ∷ 111 ∷ 100 ∷ 10 ∷ []
 
-refused : ℕ → List ℕ
-refused digit = 114 ∷ 101 ∷ 102 ∷ 117 ∷ 115 ∷ 101 ∷ 100 ∷ 32 ∷ digit ∷ 32 ∷ 48 ∷ 32 ∷ 48 ∷ 10 ∷ []
+refused : ℕ → ℕ → List ℕ
+refused number detail = 114 ∷ 101 ∷ 102 ∷ 117 ∷ 115 ∷ 101 ∷ 100 ∷ 32 ∷ number ∷ 32 ∷ 48 ∷ 32 ∷ detail ∷ 10 ∷ []
 
 count : ℕ → List ℕ
 count digit = 114 ∷ 101 ∷ 119 ∷ 114 ∷ 105 ∷ 116 ∷ 101 ∷ 115 ∷ 32 ∷ digit ∷ 10 ∷ []
@@ -93,16 +100,23 @@ cases =
     cellLine (Head 7 3 0) ++ cellLine (LoadF64 1 0x8000000000000000) ++ cellLine (DivF64 2 1 1) ++ cellLine (Ret 2) ++ count 48
     )))
     ∷ case bytesWord (flat zeros) (some (onOutput (flat zeros)))
+    -- registers past 255: 1,023 is the last, and 1,024 refuses 4
+    ∷ case rewriteWord (flat apart) (some (onOutput (
+    cellLine (Head 7 4 0) ++ cellLine (LoadI32 257 5) ++ cellLine (LoadI32 1 7) ++ cellLine (LoadI32 1023 12) ++ cellLine (Ret 1023) ++ count 49
+    )))
+    ∷ case checkWord (flat apart) (some (onOutput good))
+    ∷ case checkWord (flat beyond) (some (onOutput (refused 52 49)))
+    ∷ case bytesWord (flat beyond) (some (onError (refused 52 49)))
     -- the empty image is rewritten to the empty image
     ∷ case bytesWord [] (some (onOutput []))
     ∷ case checkWord [] (some (onOutput good))
     -- one byte is no cell, and a head of 0 is none: only `bytes` says so on standard error
-    ∷ case rewriteWord (0 ∷ []) (some (onOutput (refused 49)))
-    ∷ case fullerWord (0 ∷ []) (some (onOutput (refused 49)))
-    ∷ case fullerWord (replicate 16 0) (some (onOutput (refused 50)))
-    ∷ case bytesWord (0 ∷ []) (some (onError (refused 49)))
-    ∷ case checkWord (replicate 16 0) (some (onOutput (refused 50)))
-    ∷ case bytesWord (replicate 16 0) (some (onError (refused 50)))
+    ∷ case rewriteWord (0 ∷ []) (some (onOutput (refused 49 48)))
+    ∷ case fullerWord (0 ∷ []) (some (onOutput (refused 49 48)))
+    ∷ case fullerWord (replicate 16 0) (some (onOutput (refused 50 48)))
+    ∷ case bytesWord (0 ∷ []) (some (onError (refused 49 48)))
+    ∷ case checkWord (replicate 16 0) (some (onOutput (refused 50 48)))
+    ∷ case bytesWord (replicate 16 0) (some (onError (refused 50 48)))
     -- no word: none at all, `byte`, `checks`, `full`
     ∷ case [] (flat example) none
     ∷ case (98 ∷ 121 ∷ 116 ∷ 101 ∷ []) (flat example) none
@@ -111,5 +125,5 @@ cases =
     ∷ []
 
 pub worked : map (λ (c : ProgramCase). case (c .argument) (c .image) (doneFor (askedFor (c .argument)) (c .image))) cases ≡ cases
-unfolding doneFor example rewritten quads zeros good refused count cases askedFor programTexts passAnswer passBytes passCheck passCount siteAnswer imageAnswer functions instructionCheck eventCheck headCheck rows siteOf eventSite siteBy repeatAnswer activationAnswer judgeBy cleanCode cleanCount cleanEvents cleanFunction foldCode foldsOf foldFunction defaultRules defaultTable fullerRules fullerTable note view loadCell quadOf classOf wrap addI32 decimal rewritesLine rewrittenText refusedText refusalText goodText floatOf bitsOf divF64 Ieee.eq Ieee.div Ieee.ofBits Ieee.toBits
+unfolding doneFor example rewritten quads zeros apart beyond good refused count cases askedFor programTexts passAnswer passBytes passCheck passCount siteAnswer imageAnswer functions instructionCheck eventCheck headCheck rows siteOf eventSite siteBy repeatAnswer activationAnswer judgeBy cleanCode cleanCount cleanEvents cleanFunction foldCode foldsOf foldFunction defaultRules defaultTable fullerRules fullerTable note view loadCell quadOf classOf wrap addI32 decimal rewritesLine rewrittenText refusedText refusalText goodText floatOf bitsOf divF64 Ieee.eq Ieee.div Ieee.ofBits Ieee.toBits
 worked = refl
