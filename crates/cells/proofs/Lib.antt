@@ -12,3 +12,4 @@ pub mod Views
 pub mod GoodCells
 pub mod Spans
 pub mod Going
+pub mod WiderRegisters

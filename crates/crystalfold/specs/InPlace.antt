@@ -1,4 +1,4 @@
--- Inner: the fold of a function's instruction cells in place.
+-- Inner: the fold of cells in place: the instruction cells of a function, or all cells of an image, of which heads and events stay as they are.
 use mathlib.Core.Path.{_≡_}
 use mathlib.Core.Bool.{cond}
 use mathlib.Core.Option.{Option, none, some}

@@ -2,3 +2,4 @@ pub mod Steps
 pub mod Good
 pub mod Shown
 pub mod Again
+pub mod WiderRegisters

@@ -4,3 +4,4 @@ pub mod OneFunction
 pub mod WholeImage
 pub mod Alike
 pub mod Answered
+pub mod WiderRegisters
