@@ -105,6 +105,6 @@ module _ (limit : ℕ) (lower : limit ≤ registers) where
   unfolding instructionCheck
   instruction-as-before position d c = by-test (isCommand c)
       (λ y. by-test (operandsBelow limit (rowOf (byte c 0)) c 1)
-          (λ z. inl (rw (y, z, operands-wider (rowOf (byte c 0)) c 1 z)))
-          (λ z. inr (position, d, rw (y, z))))
+      (λ z. inl (rw (y, z, operands-wider (rowOf (byte c 0)) c 1 z)))
+      (λ z. inr (position, d, rw (y, z))))
       (λ y. inl (rw y))
