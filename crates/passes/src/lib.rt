@@ -116,7 +116,7 @@ pub struct Total {
     pub rewrites: usize,
 }
 
-// Every function, rewritten, one after another: cleanup over every function, then CrystalFold over every function, as the Rust.
+// Every function, rewritten, one after another: cleanup over every function, then CrystalFold over every function, as the Rust does.
 fn rewrite_functions(pass: Pass, image: &[u8], out: &mut [u8]) -> Total
     requires { ⌜ (siteAnswer (now image) ≡ Good) × (length (now image) ≤ length (now out)) ⌝ }
     ensures { λ r. ⌜ AllWritten (passAll pass (functions (cells (now (image .entry))))) (countAll pass (functions (cells (now (image .entry))))) (now (out .entry)) (now (out .exit)) r ⌝ }
