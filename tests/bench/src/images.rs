@@ -16,7 +16,7 @@ pub fn rows() -> Vec<(&'static str, Vec<u8>)> {
         ("folds", instrs(folds)),
         ("truth-order quads", instrs(truth_order)),
         ("f64 by zero", instrs(by_zero)),
-        ("unknown operands", instrs(|at| computed(COMPUTED[at % 8], at as u8, 7, 200))),
+        ("unknown operands", instrs(|at| computed(COMPUTED[at % 8], (at % 256) as u16, 7, 200))),
         ("borrow sites", borrow_sites()),
         ("write sites", write_sites()),
         ("labels", instrs(labels)),
@@ -70,7 +70,7 @@ fn truth_order(at: usize) -> Cell {
         return leaves::load(at, Const::Quad(at as u8));
     }
     let (left, right) = (at / 4 % 4, at / 16 % 4);
-    computed(leaves::TRUTH_ORDER[at % 4], 16 + (at % 200) as u8, left as u8, right as u8)
+    computed(leaves::TRUTH_ORDER[at % 4], 16 + (at % 200) as u16, left as u16, right as u16)
 }
 
 /// 1.0, -1.0 and both zeros, then divisions by zero, which only the fuller rewrite folds.
@@ -80,7 +80,7 @@ fn by_zero(at: usize) -> Cell {
         return leaves::load(at, Const::F64(bits[at]));
     }
     let (left, right) = (at % 4, 2 + at / 4 % 2);
-    computed(byte::DivF64, 16 + (at % 200) as u8, left as u8, right as u8)
+    computed(byte::DivF64, 16 + (at % 200) as u16, left as u16, right as u16)
 }
 
 /// A load of each kind, then a fold in every cell.
@@ -98,7 +98,7 @@ fn folds(at: usize) -> Cell {
     }
     let kind = at % 8;
     let operand = [0, 1, 2, 3, 4, 5, 0, 3][kind];
-    computed(COMPUTED[kind], 16 + (at % 200) as u8, operand, operand)
+    computed(COMPUTED[kind], 16 + (at % 200) as u16, operand, operand)
 }
 
 const COMPUTED: [u8; 8] = [

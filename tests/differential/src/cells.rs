@@ -1,11 +1,12 @@
-//! Cells and images as bytes: the numbers of document 01 and access to parts.
+//! Cells and images as bytes: the numbers of document 01, and of document 02 for the registers, and
+//! access to parts.
 
 pub const CELL: usize = 16;
 pub const HEAD: u8 = 0xF0;
 pub const MAX_IMAGE: usize = 65_536;
 pub const MAX_INSTRS: usize = 2_048;
 pub const MAX_EVENTS: usize = 1_024;
-pub const REGISTERS: usize = 256;
+pub const REGISTERS: usize = 1_024;
 
 /// Where things stand in an event cell; its kind is byte 0.
 pub const EVENT_BORROW: u8 = 0;

@@ -5,12 +5,13 @@ use crate::answers::{
     checked_text, rewritten_text, Checked, Operation, Operations, Refusal, Rewritten, Success,
     OPERATIONS, ORIGINALS,
 };
-use crate::cells::{self, REGISTERS};
+use crate::cells;
 use crate::leaves::{self, Const};
 use crate::legacy_lowering::byte;
 use crate::model;
 use crate::original::{self, Answers};
 use crate::table;
+use std::collections::HashMap;
 
 /// What differs, and both answers.
 #[derive(Debug, Clone)]
@@ -258,21 +259,23 @@ fn with_fuller_loads(cleaned: &[u8], fuller: &[u8]) -> (Vec<u8>, u32) {
 /// command that only it folds: the values of the operands, as loaded before it by what that
 /// rewrite wrote.
 pub fn fuller_only_folds(cleaned: &[u8], fuller: &[u8]) -> Vec<Option<(Const, Const)>> {
-    let mut known: [Option<Const>; REGISTERS] = [None; REGISTERS];
+    let mut known: HashMap<usize, Const> = HashMap::new();
     let cells = cells::cells(cleaned).iter().zip(cells::cells(fuller));
     let folds = cells.map(|(cell, fuller)| {
         // A head or a barrier, or an event.
         if cell[0] == cells::HEAD || cell[0] <= byte::StateUpdate {
-            known.fill(None);
+            known.clear();
             return None;
         }
         let dst = table::layout(cell[0])?.dst(cell)?;
-        let operands = leaves::operand_values(cell, &known);
-        known[dst] = leaves::loaded(fuller).filter(|load| load.0 == dst).map(|load| load.1);
+        let operands = leaves::operand_values(cell, |register| known.get(&register).copied());
+        known.remove(&dst);
+        let load = leaves::loaded(fuller).filter(|load| load.0 == dst);
+        known.extend(load);
         let (Some(left), Some(right)) = operands? else {
             return None;
         };
-        let folds = known[dst].is_some() && leaves::fuller_only(cell[0], left, right);
+        let folds = load.is_some() && leaves::fuller_only(cell[0], left, right);
         folds.then_some((left, right))
     });
     folds.collect()

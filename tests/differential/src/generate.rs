@@ -11,39 +11,56 @@ use crate::table;
 
 // ---- Cells ----
 
-fn cell(command: u8, operands: &[u8]) -> Cell {
+/// A command and its operands, as far as they have two bytes each.
+fn cell(command: u8, operands: &[u16]) -> Cell {
     let mut cell = [0; CELL];
     cell[0] = command;
-    cell[1..1 + operands.len()].copy_from_slice(operands);
+    for (place, operand) in (1..).step_by(2).zip(operands) {
+        put_half(&mut cell, place, *operand);
+    }
     cell
 }
 
+fn put_half(cell: &mut Cell, place: usize, number: u16) {
+    cell[place..place + 2].copy_from_slice(&number.to_le_bytes());
+}
+
+fn put_optional(cell: &mut Cell, place: usize, register: Option<u16>) {
+    cell[place] = register.is_some() as u8;
+    put_half(cell, place + 1, register.unwrap_or(0));
+}
+
 pub fn label(name: u16) -> Cell {
-    cell(byte::Label, &name.to_le_bytes())
+    cell(byte::Label, &[name])
 }
 
 pub fn jmp(name: u16) -> Cell {
-    cell(byte::Jmp, &name.to_le_bytes())
+    cell(byte::Jmp, &[name])
 }
 
-pub fn jmp_if(cond: u8, name: u16) -> Cell {
-    let [low, high] = name.to_le_bytes();
-    cell(byte::JmpIf, &[cond, 0, low, high])
+pub fn jmp_if(cond: u16, name: u16) -> Cell {
+    cell(byte::JmpIf, &[cond, name])
 }
 
-pub fn ret(src: Option<u8>) -> Cell {
-    cell(byte::Ret, &[src.is_some() as u8, src.unwrap_or(0), 0])
+pub fn ret(src: Option<u16>) -> Cell {
+    let mut cell = cell(byte::Ret, &[]);
+    put_optional(&mut cell, 1, src);
+    cell
 }
 
-pub fn load_i32(dst: u8, val: i32) -> Cell {
+pub fn load_i32(dst: u16, val: i32) -> Cell {
     leaves::load(dst as usize, Const::I32(val))
 }
 
+pub fn load_var(dst: u16) -> Cell {
+    cell(byte::LoadVar, &[dst, 9])
+}
+
 /// A command with dst and two operands, or dst and one.
-pub fn computed(command: u8, dst: u8, lhs: u8, rhs: u8) -> Cell {
+pub fn computed(command: u8, dst: u16, lhs: u16, rhs: u16) -> Cell {
     match leaves::operands(command) {
-        Some(1) => cell(command, &[dst, 0, lhs, 0]),
-        _ => cell(command, &[dst, 0, lhs, 0, rhs, 0]),
+        Some(1) => cell(command, &[dst, lhs]),
+        _ => cell(command, &[dst, lhs, rhs]),
     }
 }
 
@@ -52,15 +69,15 @@ fn put_site(cell: &mut Cell, place: usize, site: Option<u32>) {
     cell[place + 1..place + 5].copy_from_slice(&site.unwrap_or(0).to_le_bytes());
 }
 
-pub fn store_var(src: u8, activation_site: Option<u32>, write_site: Option<u32>) -> Cell {
-    let mut cell = cell(byte::StoreVar, &[9, 0, src, 0]);
+pub fn store_var(src: u16, activation_site: Option<u32>, write_site: Option<u32>) -> Cell {
+    let mut cell = cell(byte::StoreVar, &[9, src]);
     put_site(&mut cell, 5, activation_site);
     put_site(&mut cell, 10, write_site);
     cell
 }
 
-pub fn make_record(dst: u8, write_site: Option<u32>) -> Cell {
-    let mut cell = cell(byte::MakeRecord, &[dst, 0, 9, 0, 8, 0]);
+pub fn make_record(dst: u16, write_site: Option<u32>) -> Cell {
+    let mut cell = cell(byte::MakeRecord, &[dst, 9, 8]);
     put_site(&mut cell, 7, write_site);
     cell
 }
@@ -107,9 +124,13 @@ pub const NO_OUTPUT: isize = -(1 << 20);
 pub fn exhaustive() -> Vec<Exhaustive> {
     vec![
         every_length(),
+        registers(),
         short_divisions(),
         short_quads(),
+        apart(),
+        short_functions(),
         every_fold(),
+        functions(),
         blocks(),
         every_pair(),
         every_byte(),
@@ -180,7 +201,7 @@ fn short_lists() -> Exhaustive {
         computed(byte::AddI32, 2, 1, 1),
         computed(byte::AddI32, 1, 1, 2),
         computed(byte::CmpEq, 1, 1, 2),
-        cell(byte::LoadVar, &[1, 0, 9, 0]),
+        load_var(1),
     ];
     Exhaustive {
         name: "short lists",
@@ -201,7 +222,7 @@ fn short_quads() -> Exhaustive {
         quad(2, 1),
         quad(2, 3),
         leaves::load(1, Const::Bool(true)),
-        cell(byte::LoadVar, &[2, 0, 9, 0]),
+        load_var(2),
         label(1),
         computed(byte::QTruthAnd, 1, 1, 2),
         computed(byte::QTruthImpl, 2, 1, 2),
@@ -231,7 +252,7 @@ fn short_divisions() -> Exhaustive {
         float(2, 0.0),
         float(2, -0.0),
         load_i32(2, 0),
-        cell(byte::LoadVar, &[1, 0, 9, 0]),
+        load_var(1),
         label(1),
         computed(byte::DivF64, 1, 1, 2),
         computed(byte::DivF64, 3, 1, 2),
@@ -248,6 +269,177 @@ fn short_divisions() -> Exhaustive {
         count: words(&alphabet, SHORT - 1),
         image: Box::new(move |index| one_function(&word(&alphabet, index), &[])),
     }
+}
+
+/// A value of each kind whose loads cleanup takes away.
+pub const SWEPT: [Const; 5] = [
+    Const::Quad(2),
+    Const::Bool(true),
+    Const::F64(0x3FF8_0000_0000_0000),
+    Const::I32(5),
+    Const::Fx(1500),
+];
+
+/// Registers 256 apart: up to two loads of all kinds; and loads, folds that read and write such
+/// registers, one that is forgotten, a barrier, a jump and a return.
+fn apart() -> Exhaustive {
+    let values = || SWEPT.into_iter().chain([Const::U32(3)]);
+    let into = |register| values().map(move |value| leaves::load(register, value));
+    let loads: Vec<Cell> = [1, 255, 257, 513, 767, 1023].into_iter().flat_map(into).collect();
+    let alphabet = vec![
+        load_i32(1, 5),
+        load_i32(257, 7),
+        load_i32(513, 9),
+        leaves::load(1, Const::U32(3)),
+        leaves::load(257, Const::Bool(true)),
+        leaves::load(257, Const::U32(4)),
+        leaves::load(1023, Const::Fx(1500)),
+        computed(byte::AddI32, 1, 1, 257),
+        computed(byte::AddI32, 257, 1, 513),
+        computed(byte::AddI32, 513, 257, 257),
+        computed(byte::CmpEq, 257, 257, 1),
+        computed(byte::CmpEq, 767, 1023, 255),
+        load_var(257),
+        label(1),
+        jmp_if(257, 1),
+        ret(Some(257)),
+    ];
+    let pairs = words(&loads, 2);
+    let count = pairs + words(&alphabet, SHORT - 1);
+    Exhaustive {
+        name: "apart",
+        more: &[0],
+        run: count,
+        count,
+        image: Box::new(move |index| {
+            let list = match index.checked_sub(pairs) {
+                None => word(&loads, index),
+                Some(index) => word(&alphabet, index),
+            };
+            one_function(&list, &[])
+        }),
+    }
+}
+
+/// Short lists with heads and events among the cells: several functions, one of which may leave
+/// known what the next one names.
+fn short_functions() -> Exhaustive {
+    let alphabet = vec![
+        load_i32(1, 5),
+        load_i32(257, 7),
+        computed(byte::AddI32, 257, 1, 1),
+        computed(byte::CmpEq, 1, 257, 257),
+        load_var(1),
+        label(1),
+        ret(Some(257)),
+        borrow(None),
+        cells::head(7, 0, 0),
+    ];
+    Exhaustive {
+        name: "short functions",
+        more: &[0],
+        run: 0,
+        count: words(&alphabet, SHORT),
+        image: Box::new(move |index| several_functions(&word(&alphabet, index))),
+    }
+}
+
+/// The functions of a list in which a head begins the next one; Borrow events go behind the
+/// instructions.
+fn several_functions(list: &[Cell]) -> Vec<u8> {
+    let mut image = Vec::new();
+    for function in list.split(|cell| cell[0] == cells::HEAD) {
+        let (events, instrs): (Vec<Cell>, Vec<Cell>) =
+            function.iter().partition(|cell| cell[0] == cells::EVENT_BORROW);
+        cells::push_function(&mut image, 7, &instrs, &events);
+    }
+    image
+}
+
+/// Up to four functions. One leaves registers known, by up to 300 writes, and ends with a load, a
+/// fold, a register forgotten, a return or a label, without events or with some; a later one,
+/// behind it or behind functions of no cells or of events alone, has a command on each of these
+/// registers, which is folded if it is still known.
+fn functions() -> Exhaustive {
+    #[derive(Clone, Copy)]
+    enum Kind {
+        Leaves,
+        Names,
+        Empty,
+        EventsAlone,
+    }
+    use Kind::{Empty, EventsAlone, Leaves, Names};
+    let arrangements: [&[Kind]; 6] = [
+        &[Leaves, Names],
+        &[Names, Leaves, Names],
+        &[Leaves, Empty, Names],
+        &[Leaves, EventsAlone, Names],
+        &[Leaves, Names, Leaves, Names],
+        &[Leaves, Empty, EventsAlone, Names],
+    ];
+    let sizes = [1, 2, 64, 255, 256, 257, 300];
+    // The first register, and how many there are.
+    let spreads = [(0, REGISTERS), (250, REGISTERS), (1000, REGISTERS), (255, 7)];
+    let ends = 5;
+    let events = [
+        (None, vec![]),
+        (None, vec![borrow(None)]),
+        (Some(store_var(1, Some(1), Some(2))), vec![write(2), borrow(Some(1))]),
+    ];
+    Exhaustive {
+        name: "functions",
+        more: &[0],
+        run: 0,
+        count: arrangements.len() * sizes.len() * spreads.len() * ends * events.len(),
+        image: Box::new(move |index| {
+            let (arrangement, index) =
+                (arrangements[index % arrangements.len()], index / arrangements.len());
+            let (size, index) = (sizes[index % sizes.len()], index / sizes.len());
+            let ((first, spread), index) = (spreads[index % spreads.len()], index / spreads.len());
+            let (store, events) = &events[index / ends];
+            let register = |at| ((first + at % spread) % REGISTERS) as u16;
+            let mut leaving: Vec<Cell> = store.iter().copied().collect();
+            leaving.extend(writes(size, register));
+            leaving.push(match index % ends {
+                0 => load_i32(register(size), 5),
+                1 => computed(byte::CmpEq, register(size), register(0), register(0)),
+                2 => load_var(register(size)),
+                3 => ret(Some(register(0))),
+                _ => label(1),
+            });
+            let naming: Vec<Cell> = (0..=size).take(spread).map(|at| same(register(at))).collect();
+            let mut image = Vec::new();
+            for kind in arrangement {
+                let (instrs, events): (&[Cell], &[Cell]) = match kind {
+                    Leaves => (&leaving, events),
+                    Names => (&naming, &[]),
+                    Empty => (&[], &[]),
+                    EventsAlone => (&[], &[borrow(None)]),
+                };
+                cells::push_function(&mut image, 7, instrs, events);
+            }
+            image
+        }),
+    }
+}
+
+/// This many writes, loads and folds, each of which makes a register known.
+fn writes(count: usize, register: impl Fn(usize) -> u16) -> Vec<Cell> {
+    let mut loaded = 0;
+    let write = |at| {
+        let register = register(at);
+        if at % 3 == 1 {
+            return computed(byte::AddI32, register, loaded, loaded);
+        }
+        loaded = register;
+        load_i32(register, at as i32)
+    };
+    (0..count).map(write).collect()
+}
+
+/// A command that is folded if the register is known, and makes no other one unknown.
+fn same(register: u16) -> Cell {
+    computed(byte::CmpEq, register, register, register)
 }
 
 /// Sites on commands and events, coherent or not, up to five cells together.
@@ -335,7 +527,7 @@ fn short_with_events() -> Exhaustive {
 }
 
 /// The events that make a function's sites good; a MakeRecord's site gets as many as `writes` says.
-fn events_for(instrs: &[Cell], mut writes: impl FnMut(u32) -> usize) -> Vec<Cell> {
+pub fn events_for(instrs: &[Cell], mut writes: impl FnMut(u32) -> usize) -> Vec<Cell> {
     let mut events = Vec::new();
     for cell in instrs {
         let Some(layout) = table::layout(cell[0]) else {
@@ -352,11 +544,12 @@ fn events_for(instrs: &[Cell], mut writes: impl FnMut(u32) -> usize) -> Vec<Cell
     events
 }
 
-/// Every two commands after two loads and before a fold of what these loaded.
+/// Every two commands after two loads, into registers 256 apart, and before a fold of what these
+/// loaded.
 fn every_pair() -> Exhaustive {
     let mut letters = Vec::new();
     for command in COMMANDS {
-        for register in [1, 2] {
+        for register in [1, 257] {
             letters.push(filled(command.byte, false, register));
             letters.push(filled(command.byte, true, register));
         }
@@ -369,10 +562,10 @@ fn every_pair() -> Exhaustive {
         image: Box::new(move |index| {
             let instrs = [
                 load_i32(1, 5),
-                load_i32(2, 7),
+                load_i32(257, 7),
                 letters[index / letters.len()],
                 letters[index % letters.len()],
-                computed(byte::AddI32, 3, 1, 2),
+                computed(byte::AddI32, 3, 1, 257),
             ];
             one_function(&instrs, &events_for(&instrs, |_| 1))
         }),
@@ -424,20 +617,75 @@ fn every_byte() -> Exhaustive {
 }
 
 /// A good cell of a command; its registers, names, sites and numbers are all `number`.
-fn filled(command: u8, present: bool, number: u8) -> Cell {
-    let mut cell = [0; CELL];
-    cell[0] = command;
+pub fn filled(command: u8, present: bool, number: u16) -> Cell {
+    let mut cell = cell(command, &[]);
     for &(form, place) in &table::layout(command).unwrap().places {
         match form {
             Form::OptionalRegister | Form::Site if !present => {}
-            Form::OptionalRegister | Form::Site => {
-                cell[place..place + 2].copy_from_slice(&[1, number]);
-            }
+            Form::OptionalRegister => put_optional(&mut cell, place, Some(number)),
+            Form::Site => put_site(&mut cell, place, Some(number.into())),
             Form::Quad | Form::Bool => cell[place] = present as u8,
-            _ => cell[place] = number,
+            _ => put_half(&mut cell, place, number),
         }
     }
     cell
+}
+
+/// Numbers around the edges of a byte and of the registers, and some far past them.
+const EDGES: [u16; 18] = [
+    0, 1, 254, 255, 256, 257, 511, 512, 513, 1022, 1023, 1024, 1025, 1279, 1280, 32768, 65279,
+    65535,
+];
+
+/// Every register of every command at every edge, or absent with one of its bytes set; and every
+/// other operand of two bytes or more at 1,023, 1,024 and 65,535, which are good there. What is
+/// named is known before, and so is the register with the same low byte; behind the command both
+/// show whether they still are.
+fn registers() -> Exhaustive {
+    // A cell, its other registers and the number that is tried.
+    let mut tried: Vec<(Cell, u16, u16)> = Vec::new();
+    for (command, other) in COMMANDS.iter().flat_map(|command| [(command, 2), (command, 1023)]) {
+        let mut try_numbers = |present, place, numbers: &[u16]| {
+            for &number in numbers {
+                let mut cell = filled(command.byte, present, other);
+                put_half(&mut cell, place, number);
+                tried.push((cell, other, number));
+            }
+        };
+        for &(form, place) in &table::layout(command.byte).unwrap().places {
+            match form {
+                Form::Register => try_numbers(true, place, &EDGES),
+                Form::OptionalRegister => {
+                    try_numbers(true, place + 1, &EDGES);
+                    try_numbers(false, place + 1, &[1, 255, 256, 65280]);
+                }
+                Form::Site => try_numbers(true, place + 1, &[1023, 1024, 65535]),
+                Form::Number | Form::Word | Form::Double => {
+                    try_numbers(true, place, &[1023, 1024, 65535])
+                }
+                Form::Bool | Form::Quad => {}
+            }
+        }
+    }
+    Exhaustive {
+        name: "registers",
+        more: &[0],
+        run: tried.len(),
+        count: tried.len(),
+        image: Box::new(move |index| {
+            let (cell, other, number) = tried[index];
+            let (register, low) = (number % REGISTERS as u16, number % 256);
+            let instrs = [
+                load_i32(other, 3),
+                load_i32(low, 5),
+                load_i32(register, 7),
+                cell,
+                same(low),
+                same(register),
+            ];
+            one_function(&instrs, &events_for(&instrs, |_| 1))
+        }),
+    }
 }
 
 /// Every computed command on every two edge values of all kinds.
@@ -455,10 +703,10 @@ fn every_fold() -> Exhaustive {
             let left = values[index % pairs / values.len()];
             let right = values[index % values.len()];
             let instrs = [
-                leaves::load(1, left),
-                leaves::load(255, right),
-                computed(command, 3, 1, 255),
-                computed(byte::CmpEq, 4, 3, 1),
+                leaves::load(255, left),
+                leaves::load(1023, right),
+                computed(command, 511, 255, 1023),
+                computed(byte::CmpEq, 4, 511, 255),
             ];
             one_function(&instrs, &[])
         }),
@@ -466,35 +714,33 @@ fn every_fold() -> Exhaustive {
 }
 
 /// Two blocks of writes, loads and folds, a barrier behind each, then a command on each register,
-/// which is folded if a barrier leaves it known. Up to 140 writes in the first block, a few or about
-/// 64 in the second, into registers of their own or into seven.
+/// as far as there is room, which is folded if a barrier leaves it known. A few writes in each
+/// block, or about 64 or 256, in the first also about 128, 300, 512 or 1,024, into registers of
+/// their own, into 300 or into seven.
 fn blocks() -> Exhaustive {
     let barriers = [label(1), cell(byte::Assert, &[1]), cell(byte::ClockRead, &[2])];
-    let (firsts, seconds, spreads) = (141, [0, 1, 2, 62, 63, 64, 65, 66], [256, 7]);
+    let about = |size: usize| size - 1..=size + 1;
+    let mut firsts: Vec<usize> =
+        (0..=3).chain(62..=66).chain(254..=259).chain(1021..=1026).collect();
+    firsts.extend([128, 300, 512].into_iter().flat_map(about));
+    let seconds: Vec<usize> = [1, 64, 256].into_iter().flat_map(about).collect();
+    let spreads = [REGISTERS, 300, 7];
     Exhaustive {
         name: "blocks",
         more: &[0],
         run: 0,
-        count: firsts * seconds.len() * spreads.len() * barriers.len(),
+        count: firsts.len() * seconds.len() * spreads.len() * barriers.len(),
         image: Box::new(move |index| {
-            let (first, index) = (index % firsts, index / firsts);
+            let (first, index) = (firsts[index % firsts.len()], index / firsts.len());
             let (second, index) = (seconds[index % seconds.len()], index / seconds.len());
             let (spread, barrier) = (spreads[index % spreads.len()], index / spreads.len());
             let mut instrs = Vec::new();
-            for writes in [first, second] {
-                let mut loaded = 0;
-                for at in 0..writes {
-                    let register = ((writes + at) % spread) as u8;
-                    if at % 3 == 1 {
-                        instrs.push(computed(byte::AddI32, register, loaded, loaded));
-                    } else {
-                        instrs.push(load_i32(register, at as i32));
-                        loaded = register;
-                    }
-                }
+            for size in [first, second] {
+                instrs.extend(writes(size, |at| ((size + at) % spread) as u16));
                 instrs.push(barriers[barrier]);
             }
-            instrs.extend((0..=255).map(|register| computed(byte::CmpEq, 255, register, register)));
+            instrs.extend((0..REGISTERS as u16).map(same));
+            instrs.truncate(MAX_INSTRS);
             one_function(&instrs, &[])
         }),
     }
@@ -534,12 +780,17 @@ pub struct Often {
     pub quads: usize,
     /// Divisions by a float zero.
     pub divisions: usize,
+    /// How many of a hundred registers aren't among the first twelve: 256, 512 or 768 further on,
+    /// or the last before 256 or 1,024. If 0, none is past 255.
+    pub far: usize,
 }
 
 struct Maker<'a> {
     random: &'a mut Random,
     shape: Shape,
     often: Often,
+    /// Where the registers past the first twelve start.
+    far: [usize; 2],
     next_site: u32,
     labels: u16,
 }
@@ -550,18 +801,32 @@ const LABELS: usize = 5;
 /// The label at the start of a function that begins again at its end.
 const AGAIN: u16 = 99;
 
+/// Each twelve registers from one of these on hold each kind twice, as the first twelve do.
+const FAR: [usize; 5] = [256 - 12, 256, 512, 768, REGISTERS - 12];
+
 impl Maker<'_> {
-    fn register(&mut self, kind: usize) -> u8 {
+    fn register(&mut self, kind: usize) -> u16 {
         if !self.random.chance(self.shape.misfits) {
-            return (2 * kind + self.random.below(2)) as u8;
+            let first = 2 * kind + self.random.below(2);
+            return self.first_or_far(first);
         }
         match self.random.below(3) {
-            0 => self.random.bits() as u8,
-            _ => self.random.below(12) as u8,
+            0 if self.often.far > 0 => self.random.below(REGISTERS) as u16,
+            0 => self.random.bits() as u8 as u16,
+            _ => self.random.below(12) as u16,
         }
     }
 
-    fn any_register(&mut self) -> u8 {
+    /// One of the first twelve registers or, in some of a hundred, one further on of its kind.
+    fn first_or_far(&mut self, first: usize) -> u16 {
+        if self.often.far == 0 || !self.random.chance(self.often.far) {
+            return first as u16;
+        }
+        let start = self.random.pick(&self.far);
+        (start + (first + 12 - start % 256 % 12) % 12) as u16
+    }
+
+    fn any_register(&mut self) -> u16 {
         let kind = self.random.below(6);
         self.register(kind)
     }
@@ -665,9 +930,10 @@ impl Maker<'_> {
 
     /// Loads of quads, most often, and commands of both orders on them.
     fn push_quads(&mut self, instrs: &mut Vec<Cell>) {
-        for register in (0..REGISTERS).filter(|register| kind_of(*register) == 5).take(2) {
+        for first in (0..REGISTERS).filter(|register| kind_of(*register) == 5).take(2) {
             if self.random.chance(75) {
-                instrs.push(leaves::load(register, any_const(self.random, 5)));
+                let register = self.first_or_far(first);
+                instrs.push(leaves::load(register as usize, any_const(self.random, 5)));
             }
         }
         for _ in 0..self.random.range(1, 3) {
@@ -687,16 +953,16 @@ impl Maker<'_> {
     /// Loads of a float and of a zero, most often, the division by it, and commands on the quotient.
     fn push_divisions(&mut self, instrs: &mut Vec<Cell>) {
         // The first registers that hold floats.
-        let (dividend, divisor) = (6, 7);
+        let (dividend, divisor) = (self.first_or_far(6), self.first_or_far(7));
         if self.random.chance(75) {
-            instrs.push(leaves::load(dividend, any_const(self.random, 3)));
+            instrs.push(leaves::load(dividend as usize, any_const(self.random, 3)));
         }
         if self.random.chance(75) {
             let zero = self.random.pick(&[0, leaves::SIGN]);
-            instrs.push(leaves::load(divisor, Const::F64(zero)));
+            instrs.push(leaves::load(divisor as usize, Const::F64(zero)));
         }
         let dst = self.register(3);
-        instrs.push(computed(byte::DivF64, dst, dividend as u8, divisor as u8));
+        instrs.push(computed(byte::DivF64, dst, dividend, divisor));
         for _ in 0..self.random.below(4) {
             let (command, result) = self.random.pick(&[
                 (byte::AddF64, 3),
@@ -718,14 +984,12 @@ impl Maker<'_> {
                 break command;
             }
         };
-        let mut cell = [0; CELL];
-        cell[0] = command;
+        let mut cell = cell(command, &[]);
         for &(form, place) in &table::layout(command).unwrap().places {
             match form {
-                Form::Register => cell[place] = self.any_register(),
+                Form::Register => put_half(&mut cell, place, self.any_register()),
                 Form::OptionalRegister if self.random.chance(60) => {
-                    cell[place] = 1;
-                    cell[place + 1] = self.any_register();
+                    put_optional(&mut cell, place, Some(self.any_register()));
                 }
                 Form::OptionalRegister | Form::Site => {}
                 Form::Bool => cell[place] = self.random.below(2) as u8,
@@ -761,7 +1025,8 @@ pub fn any_function_with(
 ) -> (Vec<Cell>, Vec<Cell>) {
     let next_site = random.bits() as u32;
     let next_site = random.pick(&[0, 1, u32::MAX - 2, 0x7FFF_FFFE, 0xFFFE, next_site]);
-    let mut maker = Maker { random, shape, often, next_site, labels: 0 };
+    let far = if often.far > 0 { [(); 2].map(|()| random.pick(&FAR)) } else { [0; 2] };
+    let mut maker = Maker { random, shape, often, far, next_site, labels: 0 };
     let mut instrs: Vec<Cell> = Vec::with_capacity(shape.instrs);
     while instrs.len() < shape.instrs {
         let repeat = maker.random.chance(6);
@@ -843,8 +1108,11 @@ pub fn any_image(random: &mut Random) -> Vec<u8> {
     let mut image = Vec::new();
     for _ in 0..random.pick(&[0, 1, 1, 1, 1, 2, 3, 4]) {
         let shape = any_shape(random);
-        let often =
-            Often { quads: random.pick(&[0, 20, 60]), divisions: random.pick(&[0, 0, 15, 40]) };
+        let often = Often {
+            quads: random.pick(&[0, 20, 60]),
+            divisions: random.pick(&[0, 0, 15, 40]),
+            far: random.pick(&[0, 20, 50]),
+        };
         let (mut instrs, mut events) = any_function_with(random, shape, often);
         if random.chance(25) {
             spoil(random, &mut instrs, &mut events);
@@ -865,7 +1133,11 @@ pub fn runnable(random: &mut Random) -> Vec<u8> {
         misfits: random.pick(&[0, 0, 15]),
         one_place: random.chance(90),
     };
-    let often = Often { quads: random.pick(&[0, 15, 40]), divisions: random.pick(&[0, 0, 15, 40]) };
+    let often = Often {
+        quads: random.pick(&[0, 15, 40]),
+        divisions: random.pick(&[0, 0, 15, 40]),
+        far: random.pick(&[0, 20, 50]),
+    };
     let (mut instrs, events) = any_function_with(random, shape, often);
     // Half of them begin again at their end.
     if random.chance(50) {
@@ -892,7 +1164,7 @@ fn damage(random: &mut Random, image: &mut Vec<u8>) {
     }
     let at = random.below(image.len());
     let cell = random.below(count) * CELL;
-    match random.below(10) {
+    match random.below(12) {
         0 => image[at] ^= 1 << random.below(8),
         1 => image[at] = random.pick(&[0, 1, 2, 3, 4, 0x51, 0x52, 0x7F, 0x80, 0xF0, 0xFF]),
         2 => image[at] = random.bits() as u8,
@@ -919,11 +1191,33 @@ fn damage(random: &mut Random, image: &mut Vec<u8>) {
             let place = cell + random.pick(&[3, 5]);
             image[place] = image[place].wrapping_add(random.pick(&[1, 255]));
         }
-        _ => {
+        9 => {
             let place = cell + random.pick(&[3, 4, 5, 6]);
             image[place] = random.pick(&[0, 3, 4, 7, 8, 0xFF]);
         }
+        _ => rename_register(random, (&mut image[cell..cell + CELL]).try_into().unwrap()),
     }
+}
+
+/// Another number in the place of one of a cell's registers, if it has one: an edge, or one whose
+/// low byte is small and whose high byte isn't 0.
+fn rename_register(random: &mut Random, cell: &mut Cell) {
+    let places = table::layout(cell[0]).map_or(&[][..], |layout| &layout.places);
+    let registers = places.iter().filter_map(|&(form, place)| match form {
+        Form::Register => Some(place),
+        Form::OptionalRegister => Some(place + 1),
+        _ => None,
+    });
+    let registers: Vec<usize> = registers.collect();
+    if registers.is_empty() {
+        return;
+    }
+    let number = match random.below(3) {
+        0 => random.pick(&EDGES),
+        1 => random.pick(&[1023, 1024, 1025]),
+        _ => random.pick(&[1, 2, 3, 4, 5, 0x7F, 0x80, 0xFF]) << 8 | random.below(12) as u16,
+    };
+    put_half(cell, random.pick(&registers), number);
 }
 
 // ---- Limits ----
@@ -931,7 +1225,7 @@ fn damage(random: &mut Random, image: &mut Vec<u8>) {
 /// An image around one of the limits.
 pub fn limit(random: &mut Random) -> Vec<u8> {
     let near = |random: &mut Random, limit: usize| limit - 2 + random.below(5);
-    match random.below(8) {
+    match random.below(9) {
         0 => {
             let instrs = near(random, MAX_INSTRS);
             filled_function(random, instrs, None)
@@ -981,6 +1275,14 @@ pub fn limit(random: &mut Random) -> Vec<u8> {
             let instrs = (0..sites).map(|site| store_var(1, Some(site), None)).collect();
             spoiled_function(random, instrs)
         }
+        // A register around 1,024, or with a high byte.
+        7 => {
+            let instrs = random.range(1, 20);
+            let mut image = filled_function(random, instrs, None);
+            let cell = CELL * random.range(1, instrs);
+            rename_register(random, (&mut image[cell..cell + CELL]).try_into().unwrap());
+            image
+        }
         // A head that claims more than there is, or just as much.
         _ => {
             let (instrs, events) = (random.below(30), random.below(30));
@@ -1010,7 +1312,11 @@ fn filled_function(random: &mut Random, instrs: usize, events: Option<usize>) ->
     let sites = if events == Some(0) { 0 } else { random.pick(&[0, 10]) };
     let control = random.pick(&[0, 2, 10]);
     let shape = Shape { instrs, sites, control, actions: 10, misfits: 15, one_place: false };
-    let often = Often { quads: random.pick(&[0, 30]), divisions: random.pick(&[0, 30]) };
+    let often = Often {
+        quads: random.pick(&[0, 30]),
+        divisions: random.pick(&[0, 30]),
+        far: random.pick(&[0, 30]),
+    };
     let (instrs, mut made) = any_function_with(random, shape, often);
     if let Some(events) = events {
         made.truncate(events);

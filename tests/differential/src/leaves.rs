@@ -1,7 +1,7 @@
 //! What the computed commands give: document 01's modules 1 and 2, and document 02's
 //! truth-order quads, division by a float zero, and reasons for no result.
 
-use crate::cells::{self, Cell, CELL, REGISTERS};
+use crate::cells::{self, Cell, CELL};
 use crate::legacy_lowering::byte;
 
 /// The one NaN that a folded result is written as.
@@ -65,9 +65,9 @@ pub fn operands(command: u8) -> Option<usize> {
     }
 }
 
-/// What the registers hold of a computed command's operands; a single one twice.
-pub fn operand_values<T: Copy>(cell: &Cell, registers: &[T; REGISTERS]) -> Option<(T, T)> {
-    let value = |place| registers[cells::half(cell, place) as usize];
+/// What the registers hold, by `held`, of a computed command's operands; a single one twice.
+pub fn operand_values<T>(cell: &Cell, held: impl Fn(usize) -> T) -> Option<(T, T)> {
+    let value = |place| held(cells::half(cell, place) as usize);
     match operands(cell[0])? {
         1 => Some((value(3), value(3))),
         _ => Some((value(3), value(5))),

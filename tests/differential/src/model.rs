@@ -326,31 +326,36 @@ fn removable(cell: &Cell) -> bool {
 }
 
 fn crystalfold(instrs: &mut [Cell], rules: Rules) -> u32 {
-    let mut known: [Option<Const>; cells::REGISTERS] = [None; cells::REGISTERS];
+    let mut known = HashMap::new();
     let mut count = 0;
     for cell in instrs {
         if cell[0] <= byte::StateUpdate {
-            known.fill(None);
+            known.clear();
             continue;
         }
         if let Some((register, value)) = leaves::loaded(cell) {
-            known[register] = Some(value);
+            known.insert(register, value);
             continue;
         }
         let Some(register) = table::layout(cell[0]).unwrap().dst(cell) else {
             continue;
         };
-        known[register] = folded(cell, &known, rules);
-        if let Some(value) = known[register] {
-            *cell = leaves::load(register, value);
-            count += 1;
+        match folded(cell, &known, rules) {
+            Some(value) => {
+                known.insert(register, value);
+                *cell = leaves::load(register, value);
+                count += 1;
+            }
+            None => {
+                known.remove(&register);
+            }
         }
     }
     count
 }
 
 /// The value that a command folds to.
-fn folded(cell: &Cell, known: &[Option<Const>; cells::REGISTERS], rules: Rules) -> Option<Const> {
-    let (left, right) = leaves::operand_values(cell, known)?;
+fn folded(cell: &Cell, known: &HashMap<usize, Const>, rules: Rules) -> Option<Const> {
+    let (left, right) = leaves::operand_values(cell, |register| known.get(&register).copied())?;
     rules(cell[0], left?, right?)
 }

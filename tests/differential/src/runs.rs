@@ -1,6 +1,6 @@
-//! An interpreter written from document 01, 'How a function runs', with the truth-order quads and
-//! division by a float zero computed as document 02 has it, and the three claims on the records of
-//! a sent and a returned function.
+//! An interpreter written from document 01, 'How a function runs', with document 02's registers and
+//! the truth-order quads and division by a float zero computed as it has them; and the three claims
+//! on the records of a sent and a returned function.
 
 use crate::cells::{self, Cell, REGISTERS};
 use crate::leaves::{self, Computed, Const};
@@ -68,7 +68,10 @@ impl Outside {
 /// A run and all of its record: the entries, and how many there were after n steps.
 pub struct Run<'a> {
     instrs: &'a [Cell],
-    registers: Registers,
+    registers: Box<Registers>,
+    /// The sum of the registers' shares, less what it was at the start, which is the same for both
+    /// runs that are compared.
+    shares: u64,
     outside: Outside,
     /// The next cell; none once the run has ended.
     at: Option<usize>,
@@ -82,7 +85,8 @@ impl<'a> Run<'a> {
     pub fn new(instrs: &'a [Cell], registers: &Registers, outside: Outside) -> Run<'a> {
         let mut run = Run {
             instrs,
-            registers: *registers,
+            registers: Box::new(*registers),
+            shares: 0,
             outside,
             at: Some(0),
             record: 0,
@@ -110,7 +114,7 @@ impl<'a> Run<'a> {
     fn run_cell(&mut self, at: usize, cell: &Cell) {
         let next = at + 1;
         if let Some((dst, value)) = leaves::loaded(cell) {
-            self.registers[dst] = Value::Const(value);
+            self.set(dst, Value::Const(value));
             return self.go_to(next);
         }
         match cell[0] {
@@ -125,7 +129,7 @@ impl<'a> Run<'a> {
                 let src = (cell[1] == 1).then(|| cells::half(cell, 2));
                 self.end(Cause::Ret(src))
             }
-            command => match leaves::operand_values(cell, &self.registers) {
+            command => match leaves::operand_values(cell, |register| self.registers[register]) {
                 Some((Value::Const(left), Value::Const(right))) => {
                     self.compute(next, cell, left, right)
                 }
@@ -140,10 +144,16 @@ impl<'a> Run<'a> {
         self.registers[cells::half(cell, place) as usize]
     }
 
+    fn set(&mut self, register: usize, value: Value) {
+        let before = std::mem::replace(&mut self.registers[register], value);
+        let less = share(register, before);
+        self.shares = self.shares.wrapping_add(share(register, value)).wrapping_sub(less);
+    }
+
     fn compute(&mut self, next: usize, cell: &Cell, left: Const, right: Const) {
         match leaves::compute(cell[0], left, right) {
             Computed::Value(value) => {
-                self.registers[cells::half(cell, 1) as usize] = Value::Const(value);
+                self.set(cells::half(cell, 1) as usize, Value::Const(value));
                 self.go_to(next)
             }
             Computed::DivisorZero | Computed::OutOfRange => self.end(Cause::NoResult),
@@ -158,7 +168,7 @@ impl<'a> Run<'a> {
             Answer::Stop => self.end(Cause::Stop),
             Answer::GoOn(value) => {
                 if let Some(dst) = dst {
-                    self.registers[dst] = value;
+                    self.set(dst, value);
                 }
                 self.go_to(next)
             }
@@ -192,21 +202,23 @@ impl<'a> Run<'a> {
             record = mix(record ^ u64::from_le_bytes(cell[..8].try_into().unwrap()));
             record = mix(record ^ u64::from_le_bytes(cell[8..].try_into().unwrap()));
         }
-        for value in &self.registers {
-            let (kind, bits) = match *value {
-                Value::Const(Const::Quad(quad)) => (1, quad as u64),
-                Value::Const(Const::Bool(bool)) => (2, bool as u64),
-                Value::Const(Const::F64(bits)) => (3, bits),
-                Value::Const(Const::I32(int)) => (4, int as u64),
-                Value::Const(Const::U32(uint)) => (5, uint as u64),
-                Value::Const(Const::Fx(raw)) => (6, raw as u64),
-                Value::Other(bits) => (7, bits),
-            };
-            record = (record ^ bits).wrapping_mul(0x9E37_79B9_7F4A_7C15).rotate_left(kind);
-        }
-        self.record = mix(record);
-        self.entries.push(Entry { what, registers: Box::new(self.registers) });
+        self.record = mix(record ^ self.shares);
+        self.entries.push(Entry { what, registers: self.registers.clone() });
     }
+}
+
+/// A register's share in the number that stands for a record: by its place, kind and bits alone.
+fn share(register: usize, value: Value) -> u64 {
+    let (kind, bits) = match value {
+        Value::Const(Const::Quad(quad)) => (1, quad as u64),
+        Value::Const(Const::Bool(bool)) => (2, bool as u64),
+        Value::Const(Const::F64(bits)) => (3, bits),
+        Value::Const(Const::I32(int)) => (4, int as u64),
+        Value::Const(Const::U32(uint)) => (5, uint as u64),
+        Value::Const(Const::Fx(raw)) => (6, raw as u64),
+        Value::Other(bits) => (7, bits),
+    };
+    mix(bits ^ (8 * register as u64 + kind).wrapping_mul(0x9E37_79B9_7F4A_7C15))
 }
 
 /// Each label name of a function stands at one place: its Label cells follow one
@@ -266,9 +278,10 @@ pub fn claims(
     Ok(sent_run.entries.len())
 }
 
-/// The kind that generated functions keep in a register, as a rule.
+/// The kind that generated functions keep in a register, as a rule. Registers 256 apart have the
+/// same, so that one taken for the other still fits.
 pub fn kind_of(register: usize) -> usize {
-    register / 2 % 6
+    register % 256 / 2 % 6
 }
 
 /// A value of the register's own kind or, in some of a hundred, of any.

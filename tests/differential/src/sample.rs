@@ -10,18 +10,21 @@
 //!   1 (1), the refusal's number (1), position (2) and detail (4).
 
 use crate::answers::{Operation, Operations, Refusal, Success, OPERATIONS, ORIGINALS};
-use crate::cells::{self, Cell};
+use crate::cells::{self, Cell, Function};
+use crate::codec::Form;
 use crate::compare;
 use crate::generate::{
-    any_function_with, borrow, computed, default_commands, event, jmp, jmp_if, label, load_i32,
-    make_record, one_function, ret, store_var, write as write_event, Often, Shape,
+    any_function_with, borrow, computed, default_commands, event, events_for, filled, jmp, jmp_if,
+    label, load_i32, load_var, make_record, one_function, ret, store_var, write as write_event,
+    Often, Shape, SWEPT,
 };
 use crate::leaves::{self, Const, INFINITY, NAN, SIGN, TRUTH_ORDER};
-use crate::legacy_lowering::byte;
+use crate::legacy_lowering::{byte, COMMANDS};
+use crate::model;
 use crate::random::Random;
 use crate::runs::any_const;
 use crate::table;
-use std::collections::BTreeSet;
+use std::collections::{BTreeMap, BTreeSet};
 
 /// How many images of the original's operations there are at least.
 const IMAGES: usize = 400;
@@ -40,8 +43,41 @@ struct Sample {
     refusals: BTreeSet<u8>,
     /// What the original folded.
     folds: BTreeSet<u8>,
+    registers: Registers,
     fuller: Fuller,
 }
+
+/// What the original did with registers past 255 and in later functions.
+#[derive(Default)]
+struct Registers {
+    /// The operands that were the last register, by their names, and whether they are optional.
+    roles: BTreeSet<(&'static str, bool)>,
+    /// The registers that folded commands read, and those that they wrote.
+    read: BTreeSet<usize>,
+    written: BTreeSet<usize>,
+    /// The commands folded that read two registers 256, 512 or 768 apart.
+    apart: BTreeSet<u8>,
+    /// The loads kept right before a load into a register that is so far apart, of the kinds that
+    /// cleanup takes away.
+    loads: BTreeSet<u8>,
+    /// The commands left that would be folded by what the function before left known.
+    left: BTreeSet<u8>,
+}
+
+/// The last register, and those past 255 that folded commands must read and write.
+const LAST: u16 = cells::REGISTERS as u16 - 1;
+const PAST: [usize; 4] = [256, 257, 511, LAST as usize];
+
+/// What the last register must be.
+const ROLES: [(&str, bool); 7] = [
+    ("cond", false),
+    ("dst", false),
+    ("dst", true),
+    ("lhs", false),
+    ("rhs", false),
+    ("src", false),
+    ("src", true),
+];
 
 /// What the fuller rewrite did.
 #[derive(Default)]
@@ -73,6 +109,7 @@ pub fn make(seed: u64) -> Result<(Vec<u8>, String), String> {
         cases: 0,
         refusals: BTreeSet::new(),
         folds: BTreeSet::new(),
+        registers: Registers::default(),
         fuller: Fuller::default(),
     };
     for (name, image, wanted) in sweeps() {
@@ -88,12 +125,12 @@ pub fn make(seed: u64) -> Result<(Vec<u8>, String), String> {
         sample.add(&image, &[Operation::Rewrite])?;
     }
     while sample.images < IMAGES {
-        let image = small_image(&mut random, Often::default());
+        let image = small_image(&mut random, Often { far: 25, ..Often::default() });
         let operation = random.pick(&ORIGINALS);
         sample.add(&image, &[Operation::Rewrite, operation])?;
     }
     // Both rewrites, one after the other.
-    let often = Often { quads: 60, divisions: 0 };
+    let often = Often { quads: 60, divisions: 0, far: 25 };
     let quads = (0..QUAD_IMAGES).map(|_| small_image(&mut random, often));
     for image in truth_order().into_iter().chain(quads) {
         sample.add(&image, &[Operation::Rewrite, Operation::Fuller])?;
@@ -103,7 +140,10 @@ pub fn make(seed: u64) -> Result<(Vec<u8>, String), String> {
         sample.add(&image, &[Operation::Rewrite, Operation::CrystalFold, Operation::Fuller])?;
     }
     for _ in 0..DIVISION_IMAGES {
-        let image = small_image(&mut random, Often { quads: 0, divisions: 60 });
+        let image = small_image(&mut random, Often { quads: 0, divisions: 60, far: 25 });
+        sample.add(&image, &[Operation::Rewrite, Operation::Fuller])?;
+    }
+    for image in registers().into_iter().chain(several_functions()) {
         sample.add(&image, &[Operation::Rewrite, Operation::Fuller])?;
     }
 
@@ -113,6 +153,18 @@ pub fn make(seed: u64) -> Result<(Vec<u8>, String), String> {
         return Err(format!("refusals missing in the sample: {missing:?}"));
     }
     none_missing("folds", default_commands(), &sample.folds)?;
+    let Registers { roles, read, written, apart, loads, left: unknown } = &sample.registers;
+    if *roles != ROLES.into() {
+        return Err(format!("what register {LAST} is in the sample: {roles:?}"));
+    }
+    if !PAST.iter().all(|register| read.contains(register) && written.contains(register)) {
+        return Err(format!(
+            "registers of folds in the sample: read {read:?}, written {written:?}"
+        ));
+    }
+    none_missing("folds of registers 256 apart", [byte::SubI32, byte::CmpEq], apart)?;
+    none_missing("loads before one 256 apart", SWEPT.map(|load| leaves::load(1, load)[0]), loads)?;
+    none_missing("commands unknown in a later function", [byte::AddI32, byte::CmpEq], unknown)?;
     let Fuller { cases, folds, left, quotients, chains, refusals } = &sample.fuller;
     none_missing("folds by the fuller rewrite", fuller_commands(), folds)?;
     none_missing("commands that the fuller rewrite leaves", fuller_commands(), left)?;
@@ -132,6 +184,8 @@ pub fn make(seed: u64) -> Result<(Vec<u8>, String), String> {
     let bytes = [line.as_bytes(), &sample.cases.to_le_bytes(), &sample.bytes].concat();
     let text = format!(
         "seed {seed}: {} images, {} cases, {} bytes; refusals {:?}; {} commands folded; {} sweeps\n\
+         registers past 255: {} read and {} written by folds; {} commands folded of registers 256 \
+         apart; {} that a later function leaves\n\
          the fuller rewrite: {cases} cases; refusals {refusals:?}; {} commands folded that only it \
          folds, {} left; {} quotients by zero; behind them {} others folded",
         sample.images,
@@ -140,6 +194,10 @@ pub fn make(seed: u64) -> Result<(Vec<u8>, String), String> {
         sample.refusals,
         sample.folds.len(),
         sweeps().len(),
+        read.range(256..).count(),
+        written.range(256..).count(),
+        apart.len(),
+        unknown.len(),
         folds.len(),
         left.len(),
         quotients.len(),
@@ -220,6 +278,7 @@ impl Sample {
                 self.folds.insert(before[0]);
             }
         }
+        self.registers.note(written(Operation::Cleanup), written(Operation::Rewrite));
         if operations.contains(&Operation::Fuller) {
             let fuller = written(Operation::Fuller);
             let only = compare::fuller_only_folds(written(Operation::Cleanup), fuller);
@@ -232,6 +291,85 @@ impl Sample {
         self.images += 1;
         Ok(first)
     }
+}
+
+impl Registers {
+    /// An image as cleanup and as the default rewrite returns it.
+    fn note(&mut self, cleaned: &[u8], default: &[u8]) {
+        // What the function before left known.
+        let mut before = BTreeMap::new();
+        for (cleaned, default) in cells::functions(cleaned).zip(cells::functions(default)) {
+            for (cell, default) in cleaned.instrs.iter().zip(default.instrs) {
+                self.note_cell(cell, cell != default);
+            }
+            let loads = |cell: &Cell| leaves::loaded(cell).filter(|_| cell[0] != byte::LoadU32);
+            for pair in cleaned.instrs.windows(2) {
+                if let (Some((one, _)), Some((other, _))) = (loads(&pair[0]), loads(&pair[1])) {
+                    if are_apart(one, other) {
+                        self.loads.insert(pair[0][0]);
+                    }
+                }
+            }
+            before = self.note_function(&default, before);
+        }
+    }
+
+    /// A cell as cleanup returns it, and whether it is folded.
+    fn note_cell(&mut self, cell: &Cell, folded: bool) {
+        let layout = table::layout(cell[0]).unwrap();
+        for (operand, &(form, place)) in layout.command.operands.iter().zip(&layout.places) {
+            let register = match form {
+                Form::Register => cells::half(cell, place),
+                Form::OptionalRegister if cell[place] == 1 => cells::half(cell, place + 1),
+                _ => continue,
+            };
+            if register == LAST {
+                self.roles.insert((operand.name, form == Form::OptionalRegister));
+            }
+        }
+        if folded {
+            let (left, right) = leaves::operand_values(cell, |register| register).unwrap();
+            self.read.extend([left, right]);
+            self.written.extend(layout.dst(cell));
+            if are_apart(left, right) {
+                self.apart.insert(cell[0]);
+            }
+        }
+    }
+
+    /// A function as the default rewrite returns it, and what the one before left known; gives what
+    /// this one does.
+    fn note_function(
+        &mut self,
+        function: &Function,
+        mut before: BTreeMap<usize, Const>,
+    ) -> BTreeMap<usize, Const> {
+        let mut known = BTreeMap::new();
+        for cell in function.instrs {
+            if cell[0] <= byte::StateUpdate {
+                before.clear();
+                known.clear();
+                continue;
+            }
+            let held = |register| before.get(&register).copied();
+            if let Some((Some(left), Some(right))) = leaves::operand_values(cell, held) {
+                if model::default_rules(cell[0], left, right).is_some() {
+                    self.left.insert(cell[0]);
+                }
+            }
+            if let Some(dst) = table::layout(cell[0]).unwrap().dst(cell) {
+                before.remove(&dst);
+                known.remove(&dst);
+            }
+            known.extend(leaves::loaded(cell));
+        }
+        known
+    }
+}
+
+/// Two registers with the same low byte.
+fn are_apart(one: usize, other: usize) -> bool {
+    one != other && one % 256 == other % 256
 }
 
 impl Fuller {
@@ -262,13 +400,10 @@ fn sweeps() -> Vec<(&'static str, Vec<u8>, u32)> {
         store_var(1, Some(8), None),
     ];
     let events = [borrow(Some(8)), write_event(7), borrow(Some(5)), write_event(6), write_event(7)];
-    let kinds = [
-        Const::Quad(2),
-        Const::Bool(true),
-        Const::F64(0x3FF8_0000_0000_0000),
-        Const::I32(5),
-        Const::Fx(1500),
-    ];
+    let apart: Vec<Cell> = SWEPT
+        .iter()
+        .flat_map(|value| [1, 257, 513].map(|register| leaves::load(register, *value)))
+        .collect();
     let mut sweeps = vec![
         ("repeated labels", one_function(&[label(1), label(1), label(1), label(2)], &[]), 2),
         ("after Ret", one_function(&[ret(None), load_i32(1, 5), jmp(1), label(1)], &[]), 2),
@@ -278,14 +413,16 @@ fn sweeps() -> Vec<(&'static str, Vec<u8>, u32)> {
         ("Jmp at the end", one_function(&[label(1), jmp(1)], &[]), 0),
         ("JmpIf to the next label", one_function(&[jmp_if(1, 1), label(1)], &[]), 0),
         ("Label 1, Jmp 1, Label 1", one_function(&[label(1), jmp(1), label(1)], &[]), 1),
-        ("five loads", one_function(&kinds.map(load), &[]), 4),
+        ("five loads", one_function(&SWEPT.map(load), &[]), 4),
         ("LoadU32 twice", one_function(&[load(Const::U32(1)), load(Const::U32(2))], &[]), 0),
         ("LoadU32, LoadI32", one_function(&[load(Const::U32(1)), load_i32(1, 2)], &[]), 0),
         ("LoadI32, LoadU32", one_function(&[load_i32(1, 2), load(Const::U32(1))], &[]), 0),
         ("two registers", one_function(&[load_i32(1, 2), load_i32(2, 2)], &[]), 0),
+        ("registers 256 apart", one_function(&apart, &[]), 0),
+        ("register 1,023", one_function(&[load_i32(LAST, 2), load_i32(LAST, 3)], &[]), 1),
     ];
-    for first in kinds {
-        for second in kinds {
+    for first in SWEPT {
+        for second in SWEPT {
             sweeps.push(("two loads", one_function(&[load(first), load(second)], &[]), 1));
         }
     }
@@ -505,7 +642,7 @@ fn divisions() -> Vec<Vec<u8>> {
     // The zeros in registers 0 and 1, the dividends from 2 on.
     let mut all = vec![bits(0, 0), bits(1, SIGN)];
     all.extend((2..).zip(dividends).map(|(register, dividend)| bits(register, dividend)));
-    for dividend in 2..2 + dividends.len() as u8 {
+    for dividend in 2..2 + dividends.len() as u16 {
         all.extend([div(16 + dividend, dividend, 0), div(32 + dividend, dividend, 1)]);
     }
 
@@ -582,6 +719,132 @@ fn divisions() -> Vec<Vec<u8>> {
     let mut refused = one_function(&known, &[]);
     cells::push_function(&mut refused, 8, &[one, zero, quotient, make_record(3, Some(6))], &[]);
     images.push(refused);
+    images
+}
+
+/// For both rewrites: registers past 255 read and written by folds, known or not where one with the
+/// same low byte is, forgotten, behind a barrier; and each command on the last one, which is known
+/// before it, and behind it if the command leaves it so.
+fn registers() -> Vec<Vec<u8>> {
+    let float = |register, number: f64| leaves::load(register, Const::F64(number.to_bits()));
+    let bool = |register, bool| leaves::load(register, Const::Bool(bool));
+    let quad = |register, quad| leaves::load(register, Const::Quad(quad));
+    let add = |dst, lhs, rhs| computed(byte::AddI32, dst, lhs, rhs);
+    let sub = |dst, lhs, rhs| computed(byte::SubI32, dst, lhs, rhs);
+    let equal = |dst, lhs, rhs| computed(byte::CmpEq, dst, lhs, rhs);
+    let div = |dst, lhs, rhs| computed(byte::DivF64, dst, lhs, rhs);
+    let lists: [&[Cell]; 13] = [
+        // A fold's registers feed further ones.
+        &[
+            load_i32(256, 5),
+            load_i32(511, 7),
+            add(LAST, 256, 511),
+            sub(257, LAST, 256),
+            add(511, 257, LAST),
+            sub(256, 511, 257),
+            ret(Some(256)),
+        ],
+        // The same low byte, and two values.
+        &[
+            load_i32(1, 5),
+            load_i32(257, 7),
+            sub(2, 1, 257),
+            sub(258, 257, 1),
+            equal(513, 1, 257),
+            equal(769, 2, 258),
+        ],
+        &[load_i32(255, 5), leaves::load(1023, Const::U32(5)), equal(511, 255, LAST)],
+        &[load_i32(0, 5), add(256, 0, 0), add(512, 256, 0), sub(0, 512, 256), sub(768, 0, 512)],
+        // Known is the other.
+        &[load_i32(1, 5), add(2, 257, 257), add(3, 1, 513), add(4, 257, 1), add(5, 1, 1)],
+        &[load_i32(257, 5), add(2, 1, 1), add(3, 257, 513), add(4, 1, 257), add(5, 257, 257)],
+        // Written, and forgotten, is the other.
+        &[load_i32(1, 5), load_var(257), add(2, 1, 1), add(258, 257, 257)],
+        &[load_i32(LAST, 5), load_var(255), add(2, LAST, LAST), load_var(LAST), add(3, LAST, LAST)],
+        &[load_i32(1, 5), add(257, 1, 2), add(3, 1, 1), add(4, 257, 257)],
+        // A barrier.
+        &[load_i32(257, 5), load_i32(LAST, 7), label(1), add(1, 257, 257), equal(2, LAST, LAST)],
+        // Cleanup comes first.
+        &[
+            jmp(257),
+            add(LAST, LAST, LAST),
+            label(257),
+            load_i32(257, 5),
+            bool(257, true),
+            load_i32(1, 7),
+            computed(byte::BoolNot, 513, 257, 0),
+            jmp_if(513, 257),
+            ret(Some(LAST)),
+            add(1, 1, 1),
+        ],
+        // Only the fuller rewrite folds these.
+        &[
+            quad(1, 1),
+            quad(257, 2),
+            computed(byte::QTruthAnd, 513, 1, 257),
+            computed(byte::QTruthNot, LAST, 257, 0),
+            computed(byte::QAnd, 256, 513, LAST),
+            computed(byte::QNot, 511, 513, 0),
+        ],
+        &[
+            float(257, -1.0),
+            float(513, 0.0),
+            div(1, 257, 513),
+            div(LAST, 257, 1),
+            div(256, LAST, 257),
+            equal(511, LAST, 513),
+        ],
+    ];
+    let mut images: Vec<Vec<u8>> = lists.into_iter().map(|list| one_function(list, &[])).collect();
+    for commands in COMMANDS.chunks(27) {
+        let mut image = Vec::new();
+        for command in commands {
+            let instrs = [
+                load_i32(LAST, 5),
+                filled(command.byte, true, LAST),
+                computed(byte::CmpEq, 1, LAST, LAST),
+            ];
+            cells::push_function(&mut image, LAST, &instrs, &events_for(&instrs, |_| 1));
+        }
+        images.push(image);
+    }
+    images
+}
+
+/// For both rewrites: no function knows what the one before did, whichever cell and whatever events
+/// end that one.
+fn several_functions() -> Vec<Vec<u8>> {
+    let add = |dst, lhs, rhs| computed(byte::AddI32, dst, lhs, rhs);
+    let equal = |dst, lhs, rhs| computed(byte::CmpEq, dst, lhs, rhs);
+    let known = [load_i32(1, 5), load_i32(LAST, 7), add(257, 1, LAST)];
+    let names = [add(2, 1, 1), equal(3, LAST, LAST), equal(1, 1, LAST), add(511, 257, 257)];
+    let site = store_var(257, Some(5), Some(6));
+    let ends: [(&[Cell], &[Cell]); 7] = [
+        (&[], &[]),
+        (&[], &[borrow(None)]),
+        (&[load_i32(2, 5)], &[]),
+        (&[load_var(2)], &[borrow(None)]),
+        (&[site], &[write_event(6), borrow(Some(5))]),
+        (&[ret(Some(257))], &[]),
+        (&[label(1)], &[]),
+    ];
+    let mut images = Vec::new();
+    for (last, events) in ends {
+        let mut image = one_function(&[&known, last].concat(), events);
+        cells::push_function(&mut image, 8, &names, &[]);
+        images.push(image);
+    }
+    // Functions between that have no instructions; and one that has loads of its own.
+    let mut four = one_function(&known, &[]);
+    cells::push_function(&mut four, 8, &[], &[]);
+    cells::push_function(&mut four, 9, &[], &[borrow(None)]);
+    cells::push_function(&mut four, 10, &names, &[]);
+    images.push(four);
+    let mut own = one_function(&known, &[]);
+    cells::push_function(&mut own, 8, &[&[load_i32(LAST, 9)], &names[..]].concat(), &[]);
+    cells::push_function(&mut own, 9, &known, &[]);
+    cells::push_function(&mut own, 10, &names, &[]);
+    images.push(own);
     images
 }
 

@@ -9,12 +9,30 @@ pub fn shrink(image: &[u8], shows: impl Fn(&[u8]) -> bool) -> Vec<u8> {
         let smaller = candidates(&best).find(|candidate| shows(candidate));
         match smaller {
             Some(smaller) => best = smaller,
+            None if smaller_bytes(&mut best, &shows) => {}
             None => return best,
         }
     }
 }
 
-/// Images that are smaller than the given one, the much smaller ones first.
+/// Makes each byte in turn as small as `shows` allows; says whether one became smaller.
+fn smaller_bytes(image: &mut [u8], shows: impl Fn(&[u8]) -> bool) -> bool {
+    let mut changed = false;
+    for at in 0..image.len() {
+        let byte = image[at];
+        for new in [0, 1, byte / 2, byte.saturating_sub(1)] {
+            image[at] = new;
+            if new < byte && shows(image) {
+                changed = true;
+                break;
+            }
+            image[at] = byte;
+        }
+    }
+    changed
+}
+
+/// Images that are shorter than the given one, the much shorter ones first.
 fn candidates(image: &[u8]) -> impl Iterator<Item = Vec<u8>> + '_ {
     let without = move |from: usize, to: usize| [&image[..from], &image[to..]].concat();
     let heads = heads(image);
@@ -55,18 +73,7 @@ fn candidates(image: &[u8]) -> impl Iterator<Item = Vec<u8>> + '_ {
     let tails = tails.map(|cut| image[..image.len() - cut].to_vec());
     let chunks = (0..image.len() / CELL).map(move |at| without(at * CELL, (at + 1) * CELL));
 
-    // Smaller bytes.
-    let bytes = (0..image.len()).flat_map(move |at| {
-        let byte = image[at];
-        let smaller = [0, 1, byte / 2, byte.saturating_sub(1)];
-        smaller.into_iter().filter(move |new| *new < byte).map(move |new| {
-            let mut copy = image.to_vec();
-            copy[at] = new;
-            copy
-        })
-    });
-
-    functions.chain(runs).chain(tails).chain(chunks).chain(bytes)
+    functions.chain(runs).chain(tails).chain(chunks)
 }
 
 /// Where the heads are, as far as they can be followed.

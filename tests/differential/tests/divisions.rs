@@ -61,7 +61,7 @@ fn float(register: usize, bits: u64) -> Cell {
     leaves::load(register, Const::F64(bits))
 }
 
-fn div(dst: u8, lhs: u8, rhs: u8) -> Cell {
+fn div(dst: u16, lhs: u16, rhs: u16) -> Cell {
     computed(byte::DivF64, dst, lhs, rhs)
 }
 

@@ -4,11 +4,12 @@ use differential::answers::{
     Checked, Operation, Operations, Refusal, Rewritten, Success, ORIGINALS,
 };
 use differential::cells::{self, CELL};
+use differential::codec::{Form, Operand};
 use differential::compare;
 use differential::driver::compare_all;
 use differential::generate::{
-    self, borrow, computed, computed_commands, default_commands, jmp, label, load_i32, make_record,
-    one_function, ret, store_var, write,
+    self, borrow, computed, computed_commands, default_commands, jmp, jmp_if, label, load_i32,
+    make_record, one_function, ret, store_var, write,
 };
 use differential::leaves::{self, Computed, Const, INFINITY, NAN, SIGN, TRUTH_ORDER};
 use differential::legacy_lowering::byte;
@@ -84,9 +85,22 @@ enum Fault {
     ForgetsLoadsAlone,
     ForgetsAllButTheFirst,
     ForgetsAllButTheLast,
+    KnownInTheNextFunction,
+    KnownInTheNextFunctionWithoutEvents,
+    // Registers past 255.
+    RegistersBelow(u16),
+    RewriteRegistersBelow256,
+    LimitsDstAlone,
+    LimitsNoOptionalRegister,
+    AbsentRegisterWithASecondByte,
+    SweepsLoadsByTheLowByte,
+    TableByTheLowByte,
+    ReadsByTheLowByte,
+    WritesByTheLowByte,
+    FoldsIntoTheLowByte,
 }
 
-const FAULTS: [Fault; 63] = [
+const FAULTS: [Fault; 79] = [
     Fault::HandsTheImageBack,
     Fault::OnlyPretendsToFold,
     Fault::CountFromNowhere,
@@ -145,15 +159,31 @@ const FAULTS: [Fault; 63] = [
     Fault::FullerDividesByZeroOfAnotherKind,
     Fault::FullerDividesAnotherKindByZero,
     Fault::FullerDividesTheUnknownByZero,
+    Fault::ForgetsTheFirst(256),
+    Fault::ForgetsTheFirst(255),
     Fault::ForgetsTheFirst(64),
     Fault::ForgetsTheFirst(63),
     Fault::ForgetsLoadsAlone,
     Fault::ForgetsAllButTheFirst,
     Fault::ForgetsAllButTheLast,
+    Fault::KnownInTheNextFunction,
+    Fault::KnownInTheNextFunctionWithoutEvents,
+    Fault::RegistersBelow(256),
+    Fault::RegistersBelow(1023),
+    Fault::RegistersBelow(1025),
+    Fault::RewriteRegistersBelow256,
+    Fault::LimitsDstAlone,
+    Fault::LimitsNoOptionalRegister,
+    Fault::AbsentRegisterWithASecondByte,
+    Fault::SweepsLoadsByTheLowByte,
+    Fault::TableByTheLowByte,
+    Fault::ReadsByTheLowByte,
+    Fault::WritesByTheLowByte,
+    Fault::FoldsIntoTheLowByte,
 ];
 
 /// Those that the original tells, without the model.
-const BY_THE_ORIGINAL: [Fault; 25] = [
+const BY_THE_ORIGINAL: [Fault; 35] = [
     Fault::DefaultFoldsTruthOrder,
     Fault::CrystalFoldFoldsTruthOrder,
     Fault::DefaultDividesByZero,
@@ -174,11 +204,21 @@ const BY_THE_ORIGINAL: [Fault; 25] = [
     Fault::FullerCleansAgain,
     Fault::FullerSkipsTheSiteCheck,
     Fault::FullerRefusesInBytes,
+    Fault::ForgetsTheFirst(256),
+    Fault::ForgetsTheFirst(255),
     Fault::ForgetsTheFirst(64),
     Fault::ForgetsTheFirst(63),
     Fault::ForgetsLoadsAlone,
     Fault::ForgetsAllButTheFirst,
     Fault::ForgetsAllButTheLast,
+    Fault::KnownInTheNextFunction,
+    Fault::KnownInTheNextFunctionWithoutEvents,
+    Fault::RewriteRegistersBelow256,
+    Fault::SweepsLoadsByTheLowByte,
+    Fault::TableByTheLowByte,
+    Fault::ReadsByTheLowByte,
+    Fault::WritesByTheLowByte,
+    Fault::FoldsIntoTheLowByte,
 ];
 
 /// Writes an image over the start of a lent output.
@@ -247,20 +287,45 @@ fn folds_afterwards(image: &[u8], late: fn(u8, Const, Const) -> bool) -> (Vec<u8
     (bytes, one + two)
 }
 
-/// The default rewrite, with a barrier that forgets only some of what was written since the last
-/// one: `forgets` says it of the write at a position, of how many, and whether by a load.
-fn leaves_known(image: &[u8], forgets: impl Fn(usize, usize, bool) -> bool) -> (Vec<u8>, u32) {
+/// A table of what is known of the registers.
+struct Table<'a> {
+    /// The entry that a command reads of a register, and the one that it writes.
+    read: fn(usize) -> usize,
+    write: fn(usize) -> usize,
+    /// Whether a barrier forgets a write: by its position since the last one, of how many, and
+    /// whether by a load.
+    forgets: &'a dyn Fn(usize, usize, bool) -> bool,
+    /// Whether nothing is known where a function starts, behind so many events.
+    starts: fn(usize) -> bool,
+}
+
+/// The right one.
+const TABLE: Table = Table {
+    read: |register| register,
+    write: |register| register,
+    forgets: &|_, _, _| true,
+    starts: |_| true,
+};
+
+/// The default rewrite by a table.
+fn rewritten_by(table: Table, image: &[u8]) -> (Vec<u8>, u32) {
     let (cleaned, mut count) = model::rewritten(Operation::Cleanup, image);
     let mut bytes = Vec::new();
+    let mut known = [None; cells::REGISTERS];
+    let mut written = Vec::new();
+    let mut events = 0;
     for function in cells::functions(&cleaned) {
         let mut instrs = function.instrs.to_vec();
-        let mut known = [None; cells::REGISTERS];
-        let mut written = Vec::new();
+        if (table.starts)(events) {
+            known.fill(None);
+            written.clear();
+        }
+        events = function.events.len();
         for cell in &mut instrs {
             if cell[0] <= byte::StateUpdate {
-                for (at, (register, by_load)) in written.iter().enumerate() {
-                    if forgets(at, written.len(), *by_load) {
-                        known[*register] = None;
+                for (at, (entry, by_load)) in written.iter().enumerate() {
+                    if (table.forgets)(at, written.len(), *by_load) {
+                        known[*entry] = None;
                     }
                 }
                 written.clear();
@@ -270,12 +335,13 @@ fn leaves_known(image: &[u8], forgets: impl Fn(usize, usize, bool) -> bool) -> (
                 continue;
             };
             let load = leaves::loaded(cell);
-            let folded = match leaves::operand_values(cell, &known) {
+            let folded = match leaves::operand_values(cell, |read| known[(table.read)(read)]) {
                 Some((Some(a), Some(b))) => model::default_rules(cell[0], a, b),
                 _ => None,
             };
-            known[register] = load.map(|(_, value)| value).or(folded);
-            written.push((register, load.is_some()));
+            let entry = (table.write)(register);
+            known[entry] = load.map(|(_, value)| value).or(folded);
+            written.push((entry, load.is_some()));
             if let Some(value) = folded {
                 *cell = leaves::load(register, value);
                 count += 1;
@@ -286,12 +352,101 @@ fn leaves_known(image: &[u8], forgets: impl Fn(usize, usize, bool) -> bool) -> (
     (bytes, count)
 }
 
+fn low_byte(register: usize) -> usize {
+    register % 256
+}
+
+/// The default rewrite, with a load gone where the next one's register has the same low byte.
+fn sweeps_by_the_low_byte(image: &[u8]) -> (Vec<u8>, u32) {
+    let (cleaned, mut count) = model::rewritten(Operation::Cleanup, image);
+    let mut bytes = Vec::new();
+    for function in cells::functions(&cleaned) {
+        let load = |cell: &cells::Cell| leaves::loaded(cell).filter(|_| cell[0] != byte::LoadU32);
+        let mut instrs = function.instrs.to_vec();
+        for at in (1..instrs.len()).rev() {
+            if let (Some((a, _)), Some((b, _))) = (load(&instrs[at - 1]), load(&instrs[at])) {
+                if low_byte(a) == low_byte(b) {
+                    instrs.remove(at - 1);
+                    count += 1;
+                }
+            }
+        }
+        cells::push_function(&mut bytes, function.name, &instrs, function.events);
+    }
+    let (bytes, folds) = model::passes(&bytes, false, Some(&model::default_rules));
+    (bytes, count + folds)
+}
+
+/// An image with other numbers for the registers of its instructions, as far as there are any;
+/// `number` gives them by the operand, whether it is present, and what it was.
+fn with_registers(image: &[u8], number: impl Fn(&Operand, bool, u16) -> u16) -> Vec<u8> {
+    let mut bytes = image.to_vec();
+    let cells = bytes.as_chunks_mut::<CELL>().0;
+    let mut at = 0;
+    while at < cells.len() && cells[at][0] == cells::HEAD {
+        let instrs = cells::half(&cells[at], 3) as usize;
+        let events = cells::half(&cells[at], 5) as usize;
+        for cell in cells.iter_mut().skip(at + 1).take(instrs) {
+            let Some(layout) = table::layout(cell[0]) else {
+                continue;
+            };
+            for (operand, &(form, place)) in layout.command.operands.iter().zip(&layout.places) {
+                let (present, place) = match form {
+                    Form::Register => (true, place),
+                    Form::OptionalRegister => (cell[place] == 1, place + 1),
+                    _ => continue,
+                };
+                let new = number(operand, present, cells::half(cell, place));
+                cell[place..place + 2].copy_from_slice(&new.to_le_bytes());
+            }
+        }
+        at += 1 + instrs + events;
+    }
+    bytes
+}
+
+/// The greatest register, and a number that no register has.
+const LAST: u16 = cells::REGISTERS as u16 - 1;
+const NONE: u16 = u16::MAX;
+
+impl Wrong {
+    /// The image with its registers as a wrong check of them takes them: below 1,024 where it accepts
+    /// them, and not where it refuses them.
+    fn taken(&self, image: &[u8]) -> Vec<u8> {
+        match self.fault {
+            Fault::RegistersBelow(limit) => with_registers(image, |_, _, number| match number {
+                number if number < limit => number.min(LAST),
+                _ => NONE,
+            }),
+            Fault::LimitsDstAlone => with_registers(image, |operand, present, number| {
+                if operand.name == "dst" || !present {
+                    return number;
+                }
+                number.min(LAST)
+            }),
+            Fault::LimitsNoOptionalRegister => {
+                with_registers(image, |operand, present, number| match operand.form {
+                    Form::OptionalRegister if present => number.min(LAST),
+                    _ => number,
+                })
+            }
+            Fault::AbsentRegisterWithASecondByte => {
+                with_registers(image, |_, present, number| match present {
+                    true => number,
+                    false => number & 0xFF,
+                })
+            }
+            _ => image.to_vec(),
+        }
+    }
+}
+
 impl Operations for Wrong {
     fn name(&self) -> &'static str {
         "wrong"
     }
     fn image_check(&self, image: &[u8]) -> Checked {
-        let answer = model::image_check(image);
+        let answer = model::image_check(&self.taken(image));
         match self.fault {
             Fault::DetailInBytes => answer
                 .map_err(|refusal| Refusal { detail: refusal.detail * CELL as u32, ..refusal }),
@@ -299,7 +454,7 @@ impl Operations for Wrong {
         }
     }
     fn site_check(&self, image: &[u8]) -> Checked {
-        let answer = self.image_check(image).and_then(|()| model::site_check(image));
+        let answer = self.image_check(image).and_then(|()| model::site_check(&self.taken(image)));
         // Checks the sites of the first function before it looks at the second.
         if self.fault == Fault::SitesBeforeCells && image.len() >= CELL {
             let head = &cells::cells(image)[0];
@@ -311,9 +466,10 @@ impl Operations for Wrong {
         answer
     }
     fn cleanup(&self, image: &[u8], out: &mut [u8]) -> Rewritten {
-        Model.cleanup(image, out)
+        Model.cleanup(&self.taken(image), out)
     }
     fn crystalfold(&self, image: &[u8], out: &mut [u8]) -> Rewritten {
+        let image = &self.taken(image);
         let answer = Model.crystalfold(image, out);
         let commands: &[u8] = match self.fault {
             Fault::CrystalFoldFoldsTruthOrder => &TRUTH_ORDER,
@@ -325,6 +481,7 @@ impl Operations for Wrong {
     }
     fn fuller(&self, image: &[u8], out: &mut [u8]) -> Rewritten {
         use model::fuller_rules;
+        let image = &self.taken(image);
         let before = out.to_vec();
         let answer = Model.fuller(image, out);
         if self.fault == Fault::FullerSkipsTheSiteCheck
@@ -447,6 +604,12 @@ impl Operations for Wrong {
         if self.fault == Fault::WritesBeforeChecking && !out.is_empty() && !image.is_empty() {
             out[0] = image[0];
         }
+        let image = &match self.fault {
+            Fault::RewriteRegistersBelow256 => {
+                Wrong { fault: Fault::RegistersBelow(256) }.taken(image)
+            }
+            _ => self.taken(image),
+        };
         let before = out.to_vec();
         let success = Model.rewrite(image, out)?;
         let again = |bytes: &[u8], out: &mut [u8], first: Operation, second: Operation| {
@@ -491,7 +654,8 @@ impl Operations for Wrong {
             Fault::RemovesLoadU32 => {
                 let cells = cells::cells(image);
                 let two = |pair: &[cells::Cell]| {
-                    pair.iter().all(|cell| cell[0] == byte::LoadU32) && pair[0][1] == pair[1][1]
+                    pair.iter().all(|cell| cell[0] == byte::LoadU32)
+                        && pair[0][1..3] == pair[1][1..3]
                 };
                 if cells.windows(2).any(two) {
                     let num_rewrites = success.num_rewrites + 1;
@@ -532,16 +696,50 @@ impl Operations for Wrong {
                 return written((bytes, num_rewrites), out);
             }
             Fault::ForgetsTheFirst(many) => {
-                return written(leaves_known(image, |at, _, _| at < many), out);
+                let forgets = |at, _, _| at < many;
+                return written(rewritten_by(Table { forgets: &forgets, ..TABLE }, image), out);
             }
             Fault::ForgetsLoadsAlone => {
-                return written(leaves_known(image, |_, _, by_load| by_load), out);
+                let forgets = |_, _, by_load| by_load;
+                return written(rewritten_by(Table { forgets: &forgets, ..TABLE }, image), out);
             }
             Fault::ForgetsAllButTheFirst => {
-                return written(leaves_known(image, |at, _, _| at > 0), out);
+                let forgets = |at, _, _| at > 0;
+                return written(rewritten_by(Table { forgets: &forgets, ..TABLE }, image), out);
             }
             Fault::ForgetsAllButTheLast => {
-                return written(leaves_known(image, |at, of, _| at + 1 < of), out);
+                let forgets = |at, of, _| at + 1 < of;
+                return written(rewritten_by(Table { forgets: &forgets, ..TABLE }, image), out);
+            }
+            Fault::KnownInTheNextFunction => {
+                return written(rewritten_by(Table { starts: |_| false, ..TABLE }, image), out);
+            }
+            Fault::KnownInTheNextFunctionWithoutEvents => {
+                let starts = |events| events > 0;
+                return written(rewritten_by(Table { starts, ..TABLE }, image), out);
+            }
+            Fault::TableByTheLowByte => {
+                let table = Table { read: low_byte, write: low_byte, ..TABLE };
+                return written(rewritten_by(table, image), out);
+            }
+            Fault::ReadsByTheLowByte => {
+                return written(rewritten_by(Table { read: low_byte, ..TABLE }, image), out);
+            }
+            Fault::WritesByTheLowByte => {
+                return written(rewritten_by(Table { write: low_byte, ..TABLE }, image), out);
+            }
+            Fault::SweepsLoadsByTheLowByte => {
+                out.copy_from_slice(&before);
+                return written(sweeps_by_the_low_byte(image), out);
+            }
+            Fault::FoldsIntoTheLowByte => {
+                let (cleaned, _) = model::rewritten(Operation::Cleanup, image);
+                let cells = out.as_chunks_mut::<CELL>().0.iter_mut();
+                for (cell, cleaned) in cells.zip(cells::cells(&cleaned)) {
+                    if cell != cleaned {
+                        cell[2] = 0;
+                    }
+                }
             }
             // Elsewhere than in this operation.
             _ => {}
@@ -570,16 +768,53 @@ fn every_wrong_program_is_found() {
     }
 }
 
-/// The wrong barriers are wrong by what they don't forget alone.
+/// The wrong tables are wrong by what differs from this one alone.
 #[test]
-fn a_barrier_that_forgets_all_is_right() {
-    let groups = generate::exhaustive();
-    for group in groups.iter().filter(|group| ["blocks", "short lists"].contains(&group.name)) {
+fn a_table_that_forgets_all_is_right() {
+    let names = ["apart", "short functions", "functions", "blocks", "short lists"];
+    for group in generate::exhaustive().iter().filter(|group| names.contains(&group.name)) {
         for index in (0..group.count).step_by(5) {
             let image = (group.image)(index);
             let right = model::rewritten(Operation::Rewrite, &image);
-            assert_eq!(leaves_known(&image, |_, _, _| true), right, "{} {index}", group.name);
+            assert_eq!(rewritten_by(TABLE, &image), right, "{} {index}", group.name);
         }
+    }
+}
+
+/// Document 01's edge, where document 02 has it: register 1,023 is read, 1,024 refuses 4.
+#[test]
+fn the_last_register() {
+    let refused = Err(Refusal { number: 4, position: 0, detail: 2 });
+    let rows = [(255, Ok(())), (256, Ok(())), (1023, Ok(())), (1024, refused), (65535, refused)];
+    for (register, answer) in rows {
+        for cell in [
+            load_i32(register, 5),
+            computed(byte::AddI32, 1, register, 2),
+            computed(byte::AddI32, 1, 2, register),
+            computed(byte::QNot, 1, register, 0),
+            jmp_if(register, 1),
+            ret(Some(register)),
+            store_var(register, None, None),
+            make_record(register, None),
+        ] {
+            let image = one_function(&[label(1), cell], &[]);
+            assert_eq!(model::image_check(&image), answer, "{cell:02X?}");
+            let text = program::text(Operation::Rewrite, &image).unwrap();
+            assert_eq!(text == "refused 4 0 2\n", answer.is_err(), "{cell:02X?}");
+        }
+    }
+}
+
+/// A limit of 1,024 on every register is the right one.
+#[test]
+fn registers_below_1024() {
+    let right = Wrong { fault: Fault::RegistersBelow(1024) };
+    let groups = generate::exhaustive();
+    let group = groups.iter().find(|group| group.name == "registers").unwrap();
+    for index in 0..group.count {
+        let image = (group.image)(index);
+        let expected = compare::expected(&image).unwrap();
+        assert!(expected.check(&right, &image, &image).is_ok(), "{index}");
     }
 }
 
@@ -770,6 +1005,16 @@ fn sample_is_replayed() {
         Fault::DefaultDividesByZero,
         Fault::DefaultKnowsTheQuotient,
         Fault::CrystalFoldDividesByZero,
+        Fault::KnownInTheNextFunction,
+        Fault::KnownInTheNextFunctionWithoutEvents,
+        Fault::RegistersBelow(256),
+        Fault::RegistersBelow(1023),
+        Fault::RewriteRegistersBelow256,
+        Fault::SweepsLoadsByTheLowByte,
+        Fault::TableByTheLowByte,
+        Fault::ReadsByTheLowByte,
+        Fault::WritesByTheLowByte,
+        Fault::FoldsIntoTheLowByte,
     ];
     for fault in faults.chain(&others) {
         assert!(sample::replay(&bytes, &Wrong { fault: *fault }).is_err(), "{fault:?}");

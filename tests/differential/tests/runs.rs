@@ -34,6 +34,8 @@ fn ends() {
     let mut registers = registers();
     registers[8] = Value::Const(Const::Bool(false));
     registers[9] = Value::Const(Const::Bool(true));
+    registers[264] = Value::Const(Const::Bool(true));
+    registers[1023] = Value::Const(Const::Bool(false));
     let zero = leaves::load(1, Const::I32(0));
     let bool = leaves::load(2, Const::Bool(true));
     let float = |dst, bits| leaves::load(dst, Const::F64(bits));
@@ -41,12 +43,15 @@ fn ends() {
         // Before any step.
         (vec![], Cause::LastCell, vec![1, 1, 1, 1, 1]),
         (vec![ret(Some(3))], Cause::Ret(Some(3)), vec![0, 1, 1, 1, 1]),
+        (vec![ret(Some(1023))], Cause::Ret(Some(1023)), vec![0, 1, 1, 1, 1]),
         (vec![jmp(9)], Cause::MissingLabel, vec![0, 1, 1, 1, 1]),
         // A jump lands on the Label cell, which is a step.
         (vec![jmp(1), label(1), ret(None)], Cause::Ret(None), vec![0, 0, 0, 1, 1]),
         // A JmpIf that isn't taken goes on even if its label is missing.
         (vec![jmp_if(8, 9), ret(None)], Cause::Ret(None), vec![0, 0, 1, 1, 1]),
         (vec![jmp_if(9, 9), ret(None)], Cause::MissingLabel, vec![0, 1, 1, 1, 1]),
+        (vec![jmp_if(264, 9), ret(None)], Cause::MissingLabel, vec![0, 1, 1, 1, 1]),
+        (vec![jmp_if(1023, 9), ret(None)], Cause::Ret(None), vec![0, 0, 1, 1, 1]),
         (vec![jmp_if(0, 9)], Cause::UnfitOperand, vec![0, 1, 1, 1, 1]),
         // An action and the end in one step.
         (vec![store_var(1, None, None)], Cause::LastCell, vec![0, 2, 2, 2, 2]),
@@ -89,6 +94,31 @@ fn equality_with_other_is_an_action() {
     registers[1] = Value::Other(5);
     let sum = [computed(byte::AddI32, 3, 1, 1)];
     assert_eq!(end(&sum, &registers).0, Some(Cause::UnfitOperand));
+}
+
+/// Registers past 255 are read and written, and every other one stays.
+#[test]
+fn a_record_has_1024_registers() {
+    let mut registers = registers();
+    registers[1] = Value::Const(Const::I32(5));
+    registers[257] = Value::Const(Const::I32(7));
+    let instrs = [computed(byte::SubI32, 1023, 257, 1), store_var(1023, None, None)];
+    let mut run = Run::new(&instrs, &registers, OUTSIDE);
+    run.step();
+    run.step();
+    registers[1023] = Value::Const(Const::I32(2));
+    assert_eq!(run.entries.len(), 2);
+    assert!(run.entries.iter().all(|entry| entry.registers == registers));
+    assert_eq!(registers.len(), 1024);
+}
+
+/// No register starts with one value only.
+#[test]
+fn every_register_starts_at_random() {
+    let starts: Vec<_> = (0..30).map(|seed| any_registers(&mut Random::new(seed), 0)).collect();
+    for register in 0..1024 {
+        assert!(starts.iter().any(|start| start[register] != starts[0][register]), "{register}");
+    }
 }
 
 /// A register's value at the end of commands on F in register 1, T in 2, N in 3 and S in 4.
@@ -188,6 +218,35 @@ fn both_rewrites_are_run() {
         let image = one_function(&instrs, &[]);
         let (runs, _) = records(&image, &mut Random::new(1), 3).unwrap();
         assert_eq!(runs, pairs, "{instrs:02X?}");
+    }
+}
+
+#[test]
+fn the_claims_tell_registers_apart() {
+    let apart = |sent: &[Cell], returned: &[Cell]| {
+        assert!(claims(sent, sent, &registers(), OUTSIDE, 40).is_ok());
+        claims(sent, returned, &registers(), OUTSIDE, 40).is_err()
+    };
+    // What one of them holds at the end.
+    for register in 0..1024 {
+        let [sent, returned] = [5, 6].map(|value| [load_i32(register, value), ret(None)]);
+        assert!(apart(&sent, &returned), "{register}");
+    }
+    // Which one is written, or read.
+    let add = |dst, lhs, rhs| computed(byte::AddI32, dst, lhs, rhs);
+    for (one, other) in [(0, 256), (1, 257), (257, 513), (255, 1023), (1022, 1023)] {
+        let loads = [load_i32(one, 5), load_i32(other, 7)];
+        for (sent, returned) in [
+            (load_i32(one, 9), load_i32(other, 9)),
+            (add(one, one, one), add(other, one, one)),
+            (add(3, one, one), add(3, one, other)),
+            (add(3, one, other), add(3, other, other)),
+            (ret(Some(one)), ret(Some(other))),
+            (store_var(one, None, None), store_var(other, None, None)),
+        ] {
+            let [sent, returned] = [sent, returned].map(|cell| [loads[0], loads[1], cell]);
+            assert!(apart(&sent, &returned) && apart(&returned, &sent), "{sent:02X?}");
+        }
     }
 }
 
