@@ -12,6 +12,7 @@ use differential::random::Random;
 pub fn rows() -> Vec<(&'static str, Vec<u8>)> {
     let rows = vec![
         ("loads", instrs(|at| leaves::load(at % 256, value(at)))),
+        ("loads, 1,024 registers", instrs(|at| leaves::load(at % 1024, value(at)))),
         ("overwritten loads", instrs(|at| load_i32(1, at as i32))),
         ("folds", instrs(folds)),
         ("truth-order quads", instrs(truth_order)),
@@ -20,7 +21,9 @@ pub fn rows() -> Vec<(&'static str, Vec<u8>)> {
         ("borrow sites", borrow_sites()),
         ("write sites", write_sites()),
         ("labels", instrs(labels)),
-        ("4,096 empty functions", fill(|_| (Vec::new(), Vec::new()))),
+        ("4,096 empty functions", functions(Vec::new())),
+        ("functions of a load", functions(vec![load_i32(1, 5)])),
+        ("of a load and a fold", functions(vec![load_i32(1, 5), computed(byte::AddI32, 2, 1, 1)])),
         ("mixed", mixed()),
     ];
     for (name, image) in &rows {
@@ -51,6 +54,11 @@ fn fill(mut function: impl FnMut(usize) -> (Vec<Cell>, Vec<Cell>)) -> Vec<u8> {
 /// Functions of instructions alone, the first as long as a function may be.
 fn instrs(cell: fn(usize) -> Cell) -> Vec<u8> {
     fill(|left| ((0..left.min(MAX_INSTRS)).map(cell).collect(), Vec::new()))
+}
+
+/// Functions of these instructions each.
+fn functions(instrs: Vec<Cell>) -> Vec<u8> {
+    fill(|_| (instrs.clone(), Vec::new()))
 }
 
 fn value(at: usize) -> Const {
