@@ -84,10 +84,10 @@ QTruthNot = unary 0x43
 abbrev pub QTruthOr : ℕ → ℕ → ℕ → Cell
 QTruthOr = binary 0x44
 
--- ---- outside actions: Assert src · Call dst 9, with and without a dst · ClockRead dst
+-- ---- outside actions: Assert cond · Call dst 9, with and without a dst · ClockRead dst
 
 abbrev pub Assert : ℕ → Cell
-Assert s = cell (0x01 ∷ bytes 2 s)
+Assert c = cell (0x01 ∷ bytes 2 c)
 
 abbrev pub Call : ℕ → Cell
 Call d = cell (0x02 ∷ 1 ∷ bytes 2 d ++ bytes 2 9)

@@ -1,5 +1,5 @@
--- Worked: the limit of registers (document 02, W7) at every operand of each of the 81 commands, as the table has them: 1,023 is read and 1,024 is out
--- of range, for an optional register too; an absent one is zero in both bytes; what is no register may be any number.
+-- Worked: the limit of registers (document 02, W7) at every register of each of the 81 commands, as the table has them: 1,023 is read and 1,024 is out
+-- of range, for an optional one too; an absent one is zero in both bytes. The other operands of 2 bytes, names, labels and lists, may be any number.
 use Prim.Native.Nat.{ℕ, zero, suc, _+_, _-_}
 use mathlib.Core.Bool.{Bool, true, not, _&&_}
 use mathlib.Core.List.{List, [], _∷_, _++_}
@@ -16,12 +16,15 @@ use Rattle.cells.specs.declared.table.Kind.the-variants.{Reg, OptReg, Fl
 abbrev pub right : ℕ → ℕ → List ℕ → Bool
 right n at s = rowOk n (cell (n ∷ replicate (at - 1) 0 ++ s))
 
+-- a register behind the bytes p at the byte at of command n: 1,023 is the last
+abbrev pub registerLimited : ℕ → ℕ → List ℕ → Bool
+registerLimited n at p = right n at (p ++ bytes 2 255) && right n at (p ++ bytes 2 256) && right n at (p ++ bytes 2 257) && right n at (p ++ bytes 2 1023)
+    && not (right n at (p ++ bytes 2 1024)) && not (right n at (p ++ bytes 2 65535))
+
 -- the operand at the byte at of command n, by its kind
 abbrev pub limited : ℕ → ℕ → Kind → Bool
-limited n at Reg = right n at (bytes 2 255) && right n at (bytes 2 256) && right n at (bytes 2 257) && right n at (bytes 2 1023)
-    && not (right n at (bytes 2 1024)) && not (right n at (bytes 2 65535))
-limited n at OptReg = right n at (1 ∷ bytes 2 255) && right n at (1 ∷ bytes 2 256) && right n at (1 ∷ bytes 2 257) && right n at (1 ∷ bytes 2 1023)
-    && not (right n at (1 ∷ bytes 2 1024)) && not (right n at (1 ∷ bytes 2 65535))
+limited n at Reg = registerLimited n at []
+limited n at OptReg = registerLimited n at (1 ∷ [])
     && right n at (0 ∷ bytes 2 0) && not (right n at (0 ∷ bytes 2 1)) && not (right n at (0 ∷ bytes 2 256))
 limited n at Two = right n at (bytes 2 1024) && right n at (bytes 2 65535)
 limited n at Flag = true

@@ -6,7 +6,7 @@ use mathlib.Core.Option.{Option, none, some}
 use lib.Dec.{eqb}
 use lib.ListN.{replicate}
 use Rattle.cells.specs.Bytes.{bytes}
-use Rattle.cells.specs.Assembler.{cell, site, noSite, Head, StoreVarSited, MakeRecord, Borrow, Write, LoadI32, AddI32, Assert, JmpIf, Call, Ret, Label, function}
+use Rattle.cells.specs.Assembler.{cell, site, noSite, Head, StoreVarSited, MakeRecord, Borrow, Write, LoadI32, AddI32, StoreVar, Assert, JmpIf, Call, Ret, Label, function}
 use Rattle.cells.specs.Cells.{Cell, flat}
 use Rattle.cells.specs.Refusals.{numbered}
 use Rattle.cells.specs.declared.refusal.Numbers.{Numbers}
@@ -51,10 +51,11 @@ table =
     checks (LoadI32 257 1 ∷ []) [] good ∷
     wrong (function (LoadI32 65535 1 ∷ []) []) (refused 4 0 1) ∷
     -- in every role: dst, lhs and rhs, src, cond, an optional dst and an optional src
-    checks (AddI32 1023 1023 1023 ∷ Assert 1023 ∷ JmpIf 1023 9 ∷ Call 1023 ∷ Ret 1023 ∷ []) [] good ∷
+    checks (AddI32 1023 1023 1023 ∷ StoreVar 1023 ∷ Assert 1023 ∷ JmpIf 1023 9 ∷ Call 1023 ∷ Ret 1023 ∷ []) [] good ∷
     wrong (function (AddI32 1024 0 0 ∷ []) []) (refused 4 0 1) ∷
     wrong (function (AddI32 0 1024 0 ∷ []) []) (refused 4 0 1) ∷
     wrong (function (AddI32 0 0 1024 ∷ []) []) (refused 4 0 1) ∷
+    wrong (function (StoreVar 1024 ∷ []) []) (refused 4 0 1) ∷
     wrong (function (Assert 1024 ∷ []) []) (refused 4 0 1) ∷
     wrong (function (JmpIf 1024 9 ∷ []) []) (refused 4 0 1) ∷
     wrong (function (Call 1024 ∷ []) []) (refused 4 0 1) ∷
