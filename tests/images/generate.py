@@ -30,6 +30,20 @@ IMAGE_CHECK, SITE_CHECK, CLEANUP, CRYSTALFOLD, REWRITE, FULLER = range(16, 22)
 Row = collections.namedtuple("Row", "name image answers")
 
 
+def runs(data):
+    """Bytes as a length and runs: how often, the place of the number, the cell. A number is so many zeros."""
+    if isinstance(data, int):
+        return data, [(-(-data // 16), 0, bytes(16))]
+    if isinstance(data, bytes):
+        return len(data), [(1, 0, data[i:i + 16].ljust(16, b"\0")) for i in range(0, len(data), 16)]
+    listed = []
+    for word in data.split():
+        cell, _, how = word.partition("*")
+        count, _, place = how.partition("@")
+        listed.append((int(count or 1), int(place or 0), bytes.fromhex(cell).ljust(16, b"\0")))
+    return 16 * sum(count for count, _, _ in listed), listed
+
+
 def function(code):
     """A function with no events by its instruction cells."""
     return ("F00700%02X %s" % (len(code.split()), code)).strip()
@@ -73,6 +87,40 @@ def refused(name, image, number, position, detail):
     if 11 <= number:
         answers[IMAGE_CHECK] = ("", 0)
     return Row(name, image, answers)
+
+
+def counts(image):
+    """How many functions and how many cells an image has, by its heads."""
+    cells = [cell for count, _, cell in runs(image)[1] for _ in range(count)]
+    functions = at = 0
+    while at < len(cells):
+        functions, at = functions + 1, at + 1 + sum(struct.unpack_from("<HH", cells[at], 3))
+    return functions, len(cells)
+
+
+def behind(first, second):
+    """The row of the second image behind the first, by document 02 (W12) and by what is written down of each."""
+    functions, cells = counts(first.image)
+
+    def moved(number, position, detail):
+        return number, position + functions, detail + (cells if number in (2, 3, 4) else 0)
+
+    def answer(operation):
+        one, other = first.answers[operation], second.answers[operation]
+        if len(second.answers[IMAGE_CHECK]) == 3:
+            return moved(*second.answers[IMAGE_CHECK])
+        if len(one) == 3:
+            return one
+        return moved(*other) if len(other) == 3 else ((one[0] + " " + other[0]).strip(), one[1] + other[1])
+
+    name = "%s, then %s" % (first.name, second.name)
+    return Row(name, (first.image + " " + second.image).strip(), {operation: answer(operation) for operation in first.answers})
+
+
+def joined(one, other):
+    """Two images, each by itself and joined, either way round where the image check passes the first."""
+    ways = [(one, other), (other, one)]
+    return [one, other] + [behind(*way) for way in ways if len(way[0].answers[IMAGE_CHECK]) == 2]
 
 
 # A name and rows each, in the order of the document's modules: the checks, cleanup, CrystalFold, the image run.
@@ -642,6 +690,55 @@ GROUPS = [
              rewrite=("F0070001 2B0100FF07 F00800FE07 2B010001 2B020002*2045", 4092)),
         good("4,096 functions", "F0*4096@1"),
     ]),
+    # Document 02, W12: each of a pair alone, then joined both ways round. One would change the other if anything were carried over.
+    ("passes, joined", [
+        *joined(good("the printed example", "F0070003 2B010005 13020001000100 0C010200",
+                     crystalfold=("F0070003 2B010005 2B02000A 0C010200", 1), rewrite=("F0070003 2B010005 2B02000A 0C010200", 1)),
+                cleaned("Label 1, Jmp 1, Label 1", "F0080003 0A0100 080100 0A0100", "F0080002 0A0100 0A0100", 1)),
+        *joined(good("a load", "F0070001 2B010005"), good("a sum of its register", "F0080001 13020001000100")),
+        *joined(good("Ret at the end", "F0070002 2B010005 0C010100"),
+                cleaned("a load, Ret, a load", "F0080003 2B010006 0C 2B020005", "F0080002 2B010006 0C", 1)),
+        *joined(good("Jmp at the end", "F0070002 010100 080100"), good("its label", "F0080002 0A0100 010100")),
+        *joined(good("a label", "F0070001 0A0100"), cleaned("the same label twice", "F0080002 0A0100 0A0100", "F0080001 0A0100", 1)),
+        *joined(good("a load at the end", "F0070001 2B010005"),
+                cleaned("two loads of its register", "F0080002 2B010006 28010001", "F0080001 28010001", 1)),
+        *joined(cleaned("sites of an unreachable StoreVar", "F0070002000200 0C 4D0500010001090000000105 000109 0100000000000105", "F0070001 0C", 1),
+                good("the same sites", "F0080001000200 4D0500010001090000000105 000109 0100000000000105")),
+        *joined(good("functions with no cells", "F001 F002 F0070002 0C 0A0200 F003"),
+                folded_image("a fold", "F0080002 2B010005 13020001000100", "F0080002 2B010005 2B02000A", 1)),
+        *joined(good("nothing", ""), cleaned("two labels", "F0080002 0A0100 0A0100", "F0080001 0A0100", 1)),
+        *joined(fuller("QTruthNot", "2C010002 4302000100", "2C010002 2C020001", 1), fuller("QTruthNot of its result", "2C020001 4303000200", "2C020001 2C030002", 1)),
+    ]),
+    # a refusal behind two functions of three cells, and before them
+    ("passes, joined, one refused", [
+        row for bad in [
+            refused("2, first byte", "F1", 2, 0, 0),
+            refused("2, counts", "F0070001", 2, 0, 0),
+            refused("3", "F0070002 0A0100 52", 3, 0, 2),
+            refused("3, of an event, in function 1", "F0 F00700000001 02", 3, 1, 2),
+            refused("4", "F0070001 2B0004", 4, 0, 1),
+            refused("4, of a head", "F007000000000001", 4, 0, 0),
+            refused("11", "F0070002 4D000000000109 4D000000000109", 11, 0, 9),
+            refused("12", "F0070000000100 010109", 12, 0, 9),
+            refused("13", "F0070000000200 000109 000109", 13, 0, 9),
+            refused("14", "F0070001 4D000000000109", 14, 0, 0),
+            refused("21", "F0070002 320000000000000105 320000000000000105", 21, 0, 5),
+            refused("22", "F0070000000100 0000000000000105", 22, 0, 5),
+            refused("23", "F0070000000100 01", 23, 0, 0),
+            refused("24, in function 1", "F0 F0070001 320000000000000105", 24, 1, 5),
+            refused("25", "F0070001000200 4D0000000000000000000105 0100000000000105 0100000000000105", 25, 0, 5),
+            refused("26", "F0070000000100 0100000000000105", 26, 0, 5),
+        ] for row in joined(good("two functions of three cells", "F001 F0070001 0A0100"), bad)[2:]
+    ]),
+    ("passes, joined, both refused", [
+        behind(refused("24", "F0070001 320000000000000105", 24, 0, 5), refused("4", "F0070001 2B0004", 4, 0, 1)),
+        behind(refused("24", "F0070001 320000000000000105", 24, 0, 5), refused("21", "F0070002 320000000000000105 320000000000000105", 21, 0, 5)),
+    ]),
+    # two halves of 32,768 bytes: a register known and loaded at the end of the one, Jmp at the end of the other
+    ("passes, joined, 65,536 bytes", [
+        *joined(cleaned("a sum, 2,046 loads", "F00700FF07 13020001000100 2B0100*2046@3", "F0070002 13020001000100 2B0100FD07", 2045),
+                cleaned("a sum, 2,045 labels, Jmp", "F00800FF07 13030001000100 0A0100*2045 080100", "F0080003 13030001000100 0A0100 080100", 2044)),
+    ]),
     # a head whose counts pass a limit, before zeros; 4,097 functions with no cells
     ("passes, past the limits", [
         refused("2,049 instructions", "F00700010800 00*2049", 2, 0, 0),
@@ -650,20 +747,6 @@ GROUPS = [
         refused("65,552 bytes", "F0*4096@1 F0", 1, 0, 0),
     ]),
 ]
-
-
-def runs(data):
-    """Bytes as a length and runs: how often, the place of the number, the cell. A number is so many zeros."""
-    if isinstance(data, int):
-        return data, [(-(-data // 16), 0, bytes(16))]
-    if isinstance(data, bytes):
-        return len(data), [(1, 0, data[i:i + 16].ljust(16, b"\0")) for i in range(0, len(data), 16)]
-    listed = []
-    for word in data.split():
-        cell, _, how = word.partition("*")
-        count, _, place = how.partition("@")
-        listed.append((int(count or 1), int(place or 0), bytes.fromhex(cell).ljust(16, b"\0")))
-    return 16 * sum(count for count, _, _ in listed), listed
 
 
 def record(kind, refusal=(0, 0, 0), room=0, length=0, rewrites=0, listed=()):

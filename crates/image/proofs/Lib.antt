@@ -3,3 +3,4 @@ pub mod Good
 pub mod Shown
 pub mod Again
 pub mod WiderRegisters
+pub mod JoinedChecks

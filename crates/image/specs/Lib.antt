@@ -2,3 +2,4 @@ pub mod Image
 pub mod SiteCheck
 pub mod Operations
 pub mod Worked
+pub mod JoinedChecks

@@ -1,6 +1,8 @@
--- Worked: images, each with what the image check and the site check answer: `good`, or a refusal's number, position and detail.
+-- Worked: images, each with what the image check and the site check answer: `good`, or a refusal's number, position and detail; and refusals moved on
+-- (document 02, W12).
 use Prim.Native.Nat.{ℕ}
-use mathlib.Core.List.{List, [], _∷_, _++_}
+use mathlib.Core.Path.{_≡_, refl}
+use mathlib.Core.List.{List, [], _∷_, _++_, map}
 use mathlib.Core.Bool.{Bool, true, false, _&&_}
 use mathlib.Core.Option.{Option, none, some}
 use lib.Dec.{eqb}
@@ -8,8 +10,12 @@ use lib.ListN.{replicate}
 use Rattle.cells.specs.Bytes.{bytes}
 use Rattle.cells.specs.Assembler.{cell, site, noSite, Head, StoreVarSited, MakeRecord, Borrow, Write, LoadI32, AddI32, StoreVar, Assert, JmpIf, Call, Ret, Label, function}
 use Rattle.cells.specs.Cells.{Cell, flat}
-use Rattle.cells.specs.Refusals.{numbered}
+use Rattle.cells.specs.Functions.{functions}
+use Rattle.cells.specs.Refusals.{numbered, numbersOf}
+use Rattle.cells.specs.declared.refusal.Refusal.{Refusal}
+use Rattle.cells.specs.declared.refusal.Refusal.the-variants.{Length, Head as HeadWrong, UnknownCommand, Operand, OutputTooShort, ActivationSiteRepeated, ActivationSiteOnWrite, ActivationSiteClaimedTwice, ActivationSitesDiffer, WriteSiteRepeated, WriteSiteOnBorrow, WriteWithoutSite, WriteSiteUnclaimed, StoreVarSiteClaimedTwice, WriteSiteUnknown}
 use Rattle.cells.specs.declared.refusal.Numbers.{Numbers}
+use Rattle.image.specs.JoinedChecks.{refusedBehind}
 use Rattle.image.specs.Operations.{imageReply, siteReply}
 
 -- ---- the table
@@ -35,6 +41,10 @@ wrong i r = case i r r
 -- the image check passes
 abbrev pub checks : List Cell → List Cell → Option Numbers → ImageCase
 checks cs es r = case (function cs es) good r
+
+-- two functions of three cells
+abbrev pub three : List ℕ
+three = function [] [] ++ function (Label 1 ∷ []) []
 
 unfoldable pub table : List ImageCase
 table =
@@ -111,6 +121,26 @@ table =
     case (function (MakeRecord (site 5) ∷ []) [] ++ function [] []) good (refused 24 0 5) ∷
     case (function [] [] ++ function (MakeRecord (site 5) ∷ []) []) good (refused 24 1 5) ∷
     wrong (function (MakeRecord (site 5) ∷ []) [] ++ function (Label 1 ∷ cell [] ∷ []) []) (refused 3 1 4) ∷
+    -- each number behind two functions of three cells (document 02, W12): they move the position on by 2, and the cell of 2, 3 and 4 by 3
+    wrong (three ++ 0 ∷ []) (refused 1 0 0) ∷
+    wrong (three ++ cell []) (refused 2 2 3) ∷
+    wrong (three ++ Head 7 1 0) (refused 2 2 3) ∷
+    wrong (three ++ function (Label 1 ∷ cell [] ∷ []) []) (refused 3 2 5) ∷
+    wrong (three ++ function [] [] ++ function [] (cell (2 ∷ []) ∷ [])) (refused 3 3 5) ∷
+    wrong (three ++ function (LoadI32 1024 1 ∷ []) []) (refused 4 2 4) ∷
+    wrong (three ++ cell (0xf0 ∷ bytes 2 7 ++ bytes 2 0 ++ bytes 2 0 ++ 1 ∷ [])) (refused 4 2 3) ∷
+    case (three ++ function (StoreVarSited (site 9) noSite ∷ StoreVarSited (site 9) noSite ∷ []) []) good (refused 11 2 9) ∷
+    case (three ++ function [] (Write (site 9) noSite ∷ [])) good (refused 12 2 9) ∷
+    case (three ++ function [] (Borrow (site 9) noSite ∷ Borrow (site 9) noSite ∷ [])) good (refused 13 2 9) ∷
+    case (three ++ function (StoreVarSited (site 9) noSite ∷ []) []) good (refused 14 2 0) ∷
+    case (three ++ function (MakeRecord (site 5) ∷ MakeRecord (site 5) ∷ []) []) good (refused 21 2 5) ∷
+    case (three ++ function [] (Borrow noSite (site 5) ∷ [])) good (refused 22 2 5) ∷
+    case (three ++ function [] (Write noSite noSite ∷ [])) good (refused 23 2 0) ∷
+    case (three ++ function (MakeRecord (site 5) ∷ []) []) good (refused 24 2 5) ∷
+    case (three ++ function (StoreVarSited noSite (site 5) ∷ []) (Write noSite (site 5) ∷ Write noSite (site 5) ∷ [])) good (refused 25 2 5) ∷
+    case (three ++ function [] (Write noSite (site 5) ∷ [])) good (refused 26 2 5) ∷
+    -- a site in two functions is no fault of either
+    case (three ++ function (MakeRecord (site 5) ∷ []) (Write noSite (site 5) ∷ []) ++ function (MakeRecord (site 5) ∷ []) (Write noSite (site 5) ∷ [])) good good ∷
     -- 2,048 instructions and 1,024 events, one more of each, and one cell more than 65,536 bytes
     checks (replicate 2048 (Label 1)) [] good ∷
     wrong (function (replicate 2049 (Label 1)) []) (refused 2 0 0) ∷
@@ -133,3 +163,35 @@ same (some a) (some b) = sameNumbers a b
 abbrev pub holds : List ImageCase → Bool
 holds [] = true
 holds (k ∷ ks) = same (imageReply (k .image)) (k .checked) && same (siteReply (k .image)) (k .sites) && holds ks
+
+-- ---- refusals, and their numbers behind two functions of three cells
+
+pub record Move : Type 0 where
+  pub sent : Refusal
+  pub numbers : Numbers
+
+abbrev pub move : Refusal → ℕ → ℕ → ℕ → Move
+move x number position detail = record { sent = x; numbers = numbered number position detail }
+
+abbrev pub moves : List Move
+moves =
+    move Length 1 0 0
+    ∷ move (HeadWrong 0 0) 2 2 3
+    ∷ move (UnknownCommand 1 5) 3 3 8
+    ∷ move (Operand 4 9) 4 6 12
+    ∷ move OutputTooShort 5 0 0
+    ∷ move (ActivationSiteRepeated 0 9) 11 2 9
+    ∷ move (ActivationSiteOnWrite 1 0) 12 3 0
+    ∷ move (ActivationSiteClaimedTwice 0 4294967295) 13 2 4294967295
+    ∷ move (ActivationSitesDiffer 0) 14 2 0
+    ∷ move (WriteSiteRepeated 1 5) 21 3 5
+    ∷ move (WriteSiteOnBorrow 0 5) 22 2 5
+    ∷ move (WriteWithoutSite 1) 23 3 0
+    ∷ move (WriteSiteUnclaimed 0 5) 24 2 5
+    ∷ move (StoreVarSiteClaimedTwice 2 5) 25 4 5
+    ∷ move (WriteSiteUnknown 0 5) 26 2 5
+    ∷ []
+
+pub moves-hold : map (λ (m : Move). numbersOf (refusedBehind three (m .sent))) moves ≡ map (λ (m : Move). m .numbers) moves
+unfolding functions
+moves-hold = refl

@@ -5,3 +5,4 @@ pub mod WholeImage
 pub mod Alike
 pub mod Answered
 pub mod WiderRegisters
+pub mod JoinedImages

@@ -1,15 +1,15 @@
 -- Worked: the rewriting operations on images and lent outputs written out by hand from document 01 ('Answers of the operations', 'Cells on
--- either edge') and document 02 (W2, W4, W7): the reply, and every byte of the output at exit.
+-- either edge') and document 02 (W2, W4, W7, W12): the reply, and every byte of the output at exit.
 use mathlib.Core.Path.{_≡_, refl}
-use mathlib.Core.Bool.{true, false}
+use mathlib.Core.Bool.{Bool, true, false}
 use mathlib.Core.List.{List, [], _∷_, _++_, map}
 use Prim.Native.Nat.{ℕ}
-use lib.ListN.{length, replicate}
+use lib.ListN.{length, replicate, take, drop}
 use lib.Ieee as Ieee
 use Rattle.leaves.specs.Signed.{wrap, addI32}
 use Rattle.leaves.specs.Float.{floatOf, bitsOf, divF64}
 use Rattle.leaves.specs.Quads.{meet, quadOf}
-use Rattle.cells.specs.Assembler.{cell, Head, LoadI32, LoadBool, LoadF64, LoadQ, AddI32, DivF64, QAnd, QTruthAnd, Ret, RetNothing, site, noSite, StoreVarSited, MakeRecord, Borrow, Write, function}
+use Rattle.cells.specs.Assembler.{cell, Head, Label, Jmp, LoadI32, LoadBool, LoadF64, LoadQ, AddI32, DivF64, QAnd, QTruthAnd, Ret, RetNothing, site, noSite, StoreVarSited, MakeRecord, Borrow, Write, function}
 use Rattle.cells.specs.Cells.{over}
 use Rattle.cells.specs.Check.{instructionCheck, eventCheck, headCheck}
 use Rattle.cells.specs.Functions.{functions}
@@ -25,10 +25,14 @@ use Rattle.crystalfold.specs.CrystalFold.{foldFunction, foldCode, foldsOf}
 use Rattle.crystalfold.specs.declared.rules.RuleSet.the-variants.{Default, Fuller}
 use Rattle.image.specs.Image.{imageAnswer}
 use Rattle.image.specs.SiteCheck.{siteAnswer}
+use Rattle.image.specs.JoinedChecks.{EndsFunction}
 use Rattle.passes.specs.Contracts.{Reply, success, refusal, replyOf}
 use Rattle.passes.specs.Passes.{passBytes, passCount, passCheck, passAnswer, passOutput}
+use Rattle.passes.specs.Joined.{written, sum}
 use Rattle.passes.specs.declared.Pass.{Pass}
 use Rattle.passes.specs.declared.Pass.the-variants.{Cleanup, CrystalFold, Both}
+use Rattle.passes.specs.declared.Rewrite.{Rewrite}
+use Rattle.passes.specs.declared.Rewrite.the-variants.{Written}
 
 pub record OperationCase : Type 0 where
   pub pass : Pass
@@ -90,6 +94,17 @@ unlearned write es = function (MakeRecord write ∷ LoadI32 1 5 ∷ []) es ++ fu
 abbrev pub unlearnedFolded : List ℕ → List (List ℕ) → List ℕ
 unlearnedFolded write es = function (MakeRecord write ∷ LoadI32 1 5 ∷ []) es ++ function (AddI32 2 1 1 ∷ LoadI32 1 6 ∷ LoadI32 2 12 ∷ []) []
 
+-- Label 1, Jmp 1, Label 1, of which cleanup leaves both labels
+abbrev pub jumps : List ℕ
+jumps = function (Label 1 ∷ Jmp 1 ∷ Label 1 ∷ []) []
+
+abbrev pub jumpsCleaned : List ℕ
+jumpsCleaned = Head 7 2 0 ++ Label 1 ++ Label 1
+
+-- functions without cells, and between them Ret, Label 2
+abbrev pub hollow : List ℕ
+hollow = Head 1 0 0 ++ Head 2 0 0 ++ function (RetNothing ∷ Label 2 ∷ []) [] ++ Head 3 0 0
+
 abbrev pub operations : List OperationCase
 operations =
     -- the printed example, by each operation
@@ -142,6 +157,28 @@ operations =
     ∷ operation (CrystalFold Default) (unlearned noSite []) (lent 112) (success 112 1 true) (unlearnedFolded noSite [])
     ∷ operation whole (unlearned noSite (Borrow noSite noSite ∷ [])) (lent 128) (success 128 1 true) (unlearnedFolded noSite (Borrow noSite noSite ∷ []))
     ∷ operation fuller (unlearned (site 5) (Write noSite (site 5) ∷ [])) (lent 128) (success 128 1 true) (unlearnedFolded (site 5) (Write noSite (site 5) ∷ []))
+    -- two images joined, both ways round, by each operation: what is written of each alone stands above, and that of `jumps` and of `hollow` next
+    ∷ operation whole jumps (lent 64) (success 48 1 true) (jumpsCleaned ++ lent 16)
+    ∷ operation whole (example ++ jumps) (lent 144) (success 112 2 true) (folded ++ jumpsCleaned ++ lent 32)
+    ∷ operation whole (jumps ++ example) (lent 144) (success 112 2 true) (jumpsCleaned ++ folded ++ lent 32)
+    ∷ operation Cleanup (example ++ jumps) (lent 128) (success 112 1 true) (example ++ jumpsCleaned ++ lent 16)
+    ∷ operation Cleanup (jumps ++ example) (lent 128) (success 112 1 true) (jumpsCleaned ++ example ++ lent 16)
+    ∷ operation (CrystalFold Default) (example ++ jumps) (lent 128) (success 128 1 true) (folded ++ jumps)
+    ∷ operation (CrystalFold Default) (jumps ++ example) (lent 128) (success 128 1 true) (jumps ++ folded)
+    ∷ operation fuller (example ++ chain) (lent 176) (success 160 3 true) (folded ++ chainFolded ++ lent 16)
+    ∷ operation fuller (chain ++ example) (lent 176) (success 160 3 true) (chainFolded ++ folded ++ lent 16)
+    -- with functions without cells; with no image at all
+    ∷ operation whole hollow (lent 96) (success 96 0 false) hollow
+    ∷ operation whole (hollow ++ example) (lent 160) (success 160 1 true) (hollow ++ folded)
+    ∷ operation whole (example ++ hollow) (lent 160) (success 160 1 true) (folded ++ hollow)
+    ∷ operation whole (hollow ++ hollow) (lent 192) (success 192 0 false) (hollow ++ hollow)
+    ∷ operation whole ([] ++ example) (lent 64) (success 64 1 true) folded
+    -- one refused: `hollow` has 4 functions of 6 cells; a fault of the image check comes before an earlier site fault
+    ∷ refuses whole (hollow ++ function (LoadI32 1024 5 ∷ []) []) (lent 128) 4 4 7
+    ∷ refuses whole (hollow ++ function (MakeRecord (site 5) ∷ []) []) (lent 128) 24 4 5
+    ∷ refuses whole (function (MakeRecord (site 5) ∷ []) [] ++ hollow) (lent 128) 24 0 5
+    ∷ refuses whole (function (MakeRecord (site 5) ∷ []) [] ++ function (LoadI32 1024 5 ∷ []) []) (lent 64) 4 1 3
+    ∷ refuses whole (hollow ++ example) (lent 159) 5 0 0
     -- what the default rewrite does the fuller one does too; it refuses as the default one
     ∷ operation fuller example (lent 64) (success 64 1 true) folded
     ∷ operation fuller (function (LoadI32 1 5 ∷ LoadBool 1 1 ∷ []) []) (lent 48) (success 32 1 true) (Head 7 1 0 ++ LoadBool 1 1 ++ lent 16)
@@ -158,3 +195,49 @@ pub operations-hold :
     ≡ operations
 unfolding over functions instructionCheck eventCheck headCheck rows classOf view loadCell siteOf eventSite siteBy repeatAnswer activationAnswer judgeBy cleanFunction cleanCode cleanEvents cleanCount defaultTable defaultRules fullerTable fullerRules note foldFunction foldCode foldsOf imageAnswer siteAnswer passBytes passCount passCheck passAnswer passOutput wrap addI32 meet quadOf floatOf bitsOf divF64 Ieee.eq Ieee.div Ieee.ofBits Ieee.toBits
 operations-hold = refl
+
+-- ---- two answers as one
+
+abbrev pub answer : ℕ → ℕ → Bool → Rewrite
+answer n count changed = Written n (record { changed = changed; «num_rewrites» = count })
+
+pub record SumCase : Type 0 where
+  pub first : Rewrite
+  pub second : Rewrite
+  pub total : Rewrite
+
+abbrev pub sums : List SumCase
+sums =
+    record { first = answer 64 1 true; second = answer 48 2 true; total = answer 112 3 true }
+    ∷ record { first = answer 64 0 false; second = answer 48 2 true; total = answer 112 2 true }
+    ∷ record { first = answer 64 1 true; second = answer 0 0 false; total = answer 64 1 true }
+    ∷ record { first = answer 0 0 false; second = answer 0 0 false; total = answer 0 0 false }
+    ∷ []
+
+pub sums-hold : map (λ (c : SumCase). sum (c .first) (c .second)) sums ≡ map (λ (c : SumCase). c .total) sums
+sums-hold = refl
+
+-- ---- what is written, and where an image ends; cut elsewhere it may be refused twice
+
+pub written-is : written whole (example ++ jumps) (lent 200) ≡ folded ++ jumpsCleaned
+unfolding over functions instructionCheck eventCheck headCheck rows classOf view loadCell siteOf eventSite siteBy repeatAnswer activationAnswer judgeBy cleanFunction cleanCode cleanEvents cleanCount defaultTable defaultRules note foldFunction foldCode foldsOf imageAnswer siteAnswer passBytes passCount passCheck passAnswer passOutput wrap addI32
+written-is = refl
+
+-- `example` is the first function of this one, `hollow` the first 4 of that one, and nothing the first 0 of any
+pub example-ends : EndsFunction example jumps
+unfolding functions
+example-ends = (1, refl)
+
+pub hollow-ends : EndsFunction hollow example
+unfolding functions
+hollow-ends = (4, refl)
+
+pub nothing-ends : EndsFunction [] example
+nothing-ends = (0, refl)
+
+-- accepted whole: a head of no cells, cut after 8 bytes, is two refusals 1; a head that counts one instruction, and that instruction, two refusals 2
+pub cut-inside :
+    map (λ (s : List ℕ). replyOf (passAnswer whole s (length s))) (Head 7 0 0 ∷ take 8 (Head 7 0 0) ∷ drop 8 (Head 7 0 0) ∷ (Head 7 1 0 ++ Label 1) ∷ Head 7 1 0 ∷ Label 1 ∷ [])
+    ≡ success 16 0 false ∷ refusal (numbered 1 0 0) ∷ refusal (numbered 1 0 0) ∷ success 32 0 false ∷ refusal (numbered 2 0 0) ∷ refusal (numbered 2 0 0) ∷ []
+unfolding functions instructionCheck eventCheck headCheck rows classOf view loadCell siteOf eventSite siteBy repeatAnswer activationAnswer judgeBy cleanFunction cleanCode cleanEvents cleanCount defaultTable defaultRules note foldFunction foldCode foldsOf imageAnswer siteAnswer passBytes passCount passCheck passAnswer wrap addI32
+cut-inside = refl

@@ -8,3 +8,5 @@ pub mod FoldImage
 pub mod RewritePreserves
 pub mod RustOrder
 pub mod WithoutReasons
+pub mod Alone
+pub mod Append
