@@ -36,7 +36,7 @@ use Rattle.sites.specs.declared.Rule.{Rule}
 use Rattle.sites.specs.declared.Rule.the-variants.{StoreVarClaimed, BorrowKnown, EventKind, WriteClaimed, WriteKnown}
 use Rattle.image.specs.Image.{cellCheck, cellsAnswer, functionAnswer, functionsAnswer, goodLength, imageAnswer}
 use Rattle.image.specs.SiteCheck.{sitesAnswer, siteAnswer, GoodSites, SitesPass}
-use Rattle.image.specs.JoinedChecks.{moved, movedAnswer, behind, ChecksJoin, EndsFunction}
+use Rattle.image.specs.JoinedChecks.{moved, movedAnswer, answerBehind, ChecksJoin, EndsFunction}
 use Rattle.image.proofs.Steps.{accepted}
 use Rattle.image.proofs.Good.{image-good, functions-joined}
 use Rattle.image.proofs.Again.{all-full, formed-functions, formed-image, image-formed}
@@ -218,20 +218,20 @@ module _ (s t : List ℕ) (g : imageAnswer s ≡ Good) (short : length s + lengt
   count-cells : length (cellsOfAll (functions (cells s))) ≡ length s / 16
   count-cells = ap length (cells-of-functions (cells s)) ∙ length-cells s
 
-  functions-answer : functionsAnswer 0 0 (functions (cells (s ++ t))) ≡ behind s (functionsAnswer 0 0 (functions (cells t)))
+  functions-answer : functionsAnswer 0 0 (functions (cells (s ++ t))) ≡ answerBehind s (functionsAnswer 0 0 (functions (cells t)))
   functions-answer =
       let fs = functions (cells s) in
       let gs = functions (cells t) in
       ap (functionsAnswer 0 0) joined-functions ∙ functions-then 0 0 fs gs ∙ or-good _ (accepted s g .2)
       ∙ functions-moved (length fs) (length s / 16) 0 0 (0 + length fs) (0 + length (cellsOfAll fs)) gs (omega arith) (omega (arith, count-cells)) .is
 
-  image-joined : imageAnswer (s ++ t) ≡ behind s (imageAnswer t)
+  image-joined : imageAnswer (s ++ t) ≡ answerBehind s (imageAnswer t)
   unfolding imageAnswer
   image-joined =
       ap (λ (b : Bool). cond b (functionsAnswer 0 0 (functions (cells (s ++ t)))) (Refused Length)) joined-length
       ∙ moved-test (length (functions (cells s))) (length s / 16) (goodLength t) _ _ functions-answer
 
-  sites-answer : sitesAnswer 0 (functions (cells (s ++ t))) ≡ orElse (sitesAnswer 0 (functions (cells s))) (behind s (sitesAnswer 0 (functions (cells t))))
+  sites-answer : sitesAnswer 0 (functions (cells (s ++ t))) ≡ orElse (sitesAnswer 0 (functions (cells s))) (answerBehind s (sitesAnswer 0 (functions (cells t))))
   sites-answer =
       let fs = functions (cells s) in
       let gs = functions (cells t) in
@@ -242,16 +242,16 @@ module _ (s t : List ℕ) (g : imageAnswer s ≡ Good) (short : length s + lengt
   unfolding siteAnswer
   first-sites = sym (or-good _ g)
 
-  sites-joined : siteAnswer (s ++ t) ≡ orElse (behind s (imageAnswer t)) (orElse (siteAnswer s) (behind s (siteAnswer t)))
+  sites-joined : siteAnswer (s ++ t) ≡ orElse (answerBehind s (imageAnswer t)) (orElse (siteAnswer s) (answerBehind s (siteAnswer t)))
   unfolding siteAnswer
   sites-joined =
-      ap₂ orElse image-joined (sites-answer ∙ ap (λ (a : Checked). orElse a (behind s (sitesAnswer 0 (functions (cells t))))) first-sites)
+      ap₂ orElse image-joined (sites-answer ∙ ap (λ (a : Checked). orElse a (answerBehind s (sitesAnswer 0 (functions (cells t))))) first-sites)
       ∙ or-between (length (functions (cells s))) (length s / 16) (imageAnswer t) (siteAnswer s) (sitesAnswer 0 (functions (cells t)))
 
-  good-joined : siteAnswer s ≡ Good → siteAnswer (s ++ t) ≡ behind s (siteAnswer t)
+  good-joined : siteAnswer s ≡ Good → siteAnswer (s ++ t) ≡ answerBehind s (siteAnswer t)
   unfolding siteAnswer
   good-joined e =
-      sites-joined ∙ ap (orElse (behind s (imageAnswer t))) (or-good _ e)
+      sites-joined ∙ ap (orElse (answerBehind s (imageAnswer t))) (or-good _ e)
       ∙ or-twice (length (functions (cells s))) (length s / 16) (imageAnswer t) (sitesAnswer 0 (functions (cells t)))
 
 pub checks-joined : ChecksJoin

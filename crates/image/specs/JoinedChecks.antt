@@ -38,24 +38,24 @@ abbrev pub movedAnswer : ℕ → ℕ → Checked → Checked
 movedAnswer p d Good = Good
 movedAnswer p d (Refused x) = Refused (moved p d x)
 
--- a refusal, and an answer, of an image as they read where s stands before it
-abbrev pub refusedBehind : List ℕ → Refusal → Refusal
-refusedBehind s x = moved (length (functions (cells s))) (length s / 16) x
+-- a refusal, and an answer, as they read where the image s stands before
+abbrev pub refusalBehind : List ℕ → Refusal → Refusal
+refusalBehind s x = moved (length (functions (cells s))) (length s / 16) x
 
-abbrev pub behind : List ℕ → Checked → Checked
-behind s a = movedAnswer (length (functions (cells s))) (length s / 16) a
+abbrev pub answerBehind : List ℕ → Checked → Checked
+answerBehind s a = movedAnswer (length (functions (cells s))) (length s / 16) a
 
 pub record ChecksJoined (s t : List ℕ) : Type 0 where
   -- the functions are those of both
   pub functions-of : functions (cells (s ++ t)) ≡ functions (cells s) ++ functions (cells t)
   -- the image check answers what it answers of t
-  pub image : imageAnswer (s ++ t) ≡ behind s (imageAnswer t)
+  pub image : imageAnswer (s ++ t) ≡ answerBehind s (imageAnswer t)
   -- the site check: first the image check of t; then the validators on s, then those on t
-  pub sites : siteAnswer (s ++ t) ≡ orElse (behind s (imageAnswer t)) (orElse (siteAnswer s) (behind s (siteAnswer t)))
+  pub sites : siteAnswer (s ++ t) ≡ orElse (answerBehind s (imageAnswer t)) (orElse (siteAnswer s) (answerBehind s (siteAnswer t)))
   -- so where it passes s it answers what it answers of t
-  pub behind-good : siteAnswer s ≡ Good → siteAnswer (s ++ t) ≡ behind s (siteAnswer t)
+  pub behind-good : siteAnswer s ≡ Good → siteAnswer (s ++ t) ≡ answerBehind s (siteAnswer t)
 
--- proved as `checks-joined` (proofs/JoinedChecks)
+-- the theorem `checks-joined` of proofs/JoinedChecks
 abbrev pub ChecksJoin : Type 0
 ChecksJoin = (s t : List ℕ) → imageAnswer s ≡ Good → length s + length t ≤ maxImage → ChecksJoined s t
 

@@ -15,7 +15,7 @@ use Rattle.cells.specs.Refusals.{numbered, numbersOf}
 use Rattle.cells.specs.declared.refusal.Refusal.{Refusal}
 use Rattle.cells.specs.declared.refusal.Refusal.the-variants.{Length, Head as HeadWrong, UnknownCommand, Operand, OutputTooShort, ActivationSiteRepeated, ActivationSiteOnWrite, ActivationSiteClaimedTwice, ActivationSitesDiffer, WriteSiteRepeated, WriteSiteOnBorrow, WriteWithoutSite, WriteSiteUnclaimed, StoreVarSiteClaimedTwice, WriteSiteUnknown}
 use Rattle.cells.specs.declared.refusal.Numbers.{Numbers}
-use Rattle.image.specs.JoinedChecks.{refusedBehind}
+use Rattle.image.specs.JoinedChecks.{refusalBehind}
 use Rattle.image.specs.Operations.{imageReply, siteReply}
 
 -- ---- the table
@@ -139,6 +139,8 @@ table =
     case (three ++ function (MakeRecord (site 5) ∷ []) []) good (refused 24 2 5) ∷
     case (three ++ function (StoreVarSited noSite (site 5) ∷ []) (Write noSite (site 5) ∷ Write noSite (site 5) ∷ [])) good (refused 25 2 5) ∷
     case (three ++ function [] (Write noSite (site 5) ∷ [])) good (refused 26 2 5) ∷
+    -- a head refused at the image's end counts a cell of the next image, so that the image check must pass the first
+    wrong (Head 7 1 0 ++ function [] []) (refused 3 0 1) ∷
     -- a site in two functions is no fault of either
     case (three ++ function (MakeRecord (site 5) ∷ []) (Write noSite (site 5) ∷ []) ++ function (MakeRecord (site 5) ∷ []) (Write noSite (site 5) ∷ [])) good good ∷
     -- 2,048 instructions and 1,024 events, one more of each, and one cell more than 65,536 bytes
@@ -192,6 +194,6 @@ moves =
     ∷ move (WriteSiteUnknown 0 5) 26 2 5
     ∷ []
 
-pub moves-hold : map (λ (m : Move). numbersOf (refusedBehind three (m .sent))) moves ≡ map (λ (m : Move). m .numbers) moves
+pub moves-hold : map (λ (m : Move). numbersOf (refusalBehind three (m .sent))) moves ≡ map (λ (m : Move). m .numbers) moves
 unfolding functions
 moves-hold = refl

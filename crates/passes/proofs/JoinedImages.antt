@@ -22,7 +22,7 @@ use Rattle.crystalfold.specs.Rules.{rulesOf}
 use Rattle.rewrite.proofs.Append.{clean-append, fold-append, rewrite-append, clean-count-append, folds-append, rewrite-count-append}
 use Rattle.image.specs.Image.{goodLength, imageAnswer}
 use Rattle.image.specs.SiteCheck.{siteAnswer, SitesPass}
-use Rattle.image.specs.JoinedChecks.{movedAnswer, refusedBehind, behind}
+use Rattle.image.specs.JoinedChecks.{movedAnswer, refusalBehind, answerBehind}
 use Rattle.image.proofs.Good.{image-good, site-good, functions-joined}
 use Rattle.image.proofs.JoinedChecks.{checks-joined, cells-joined, joined-length, parts-pass, passed-ends}
 use Rattle.passes.specs.Passes.{passAll, countAll, passBytes, passCount, passCheck, answerAs, outputAs, report, passAnswer, passOutput}
@@ -32,7 +32,9 @@ use Rattle.passes.specs.declared.Pass.{Pass}
 use Rattle.passes.specs.declared.Pass.the-variants.{Cleanup, CrystalFold, Both}
 use Rattle.passes.specs.declared.Rewrite.{Rewrite}
 use Rattle.passes.specs.declared.Rewrite.the-variants.{Written, Refused}
+use Rattle.passes.proofs.Checked.{check-sites}
 use Rattle.passes.proofs.Done.{check-good, pass-done}
+use Rattle.passes.proofs.Answered.{run-refused}
 
 -- ---- the definitions over functions of both
 
@@ -93,7 +95,7 @@ module _ (p : Pass) (s u : List ℕ) (g : SitesPass s) (l : length s ≤ length 
 
 joined-pass : (s t : List ℕ) → SitesPass s → SitesPass t → length s + length t ≤ maxImage → SitesPass (s ++ t)
 joined-pass s t g h l =
-    site-good (s ++ t) .0 (checks-joined s t (image-good s .1 (g .image)) l .behind-good (site-good s .1 g) ∙ ap (behind s) (site-good t .1 h))
+    site-good (s ++ t) .0 (checks-joined s t (image-good s .1 (g .image)) l .behind-good (site-good s .1 g) ∙ ap (answerBehind s) (site-good t .1 h))
 
 either-some : (m n : ℕ) → ltb 0 (m + n) ≡ (ltb 0 m || ltb 0 n)
 either-some zero n = ap (ltb 0) (zero-add n)
@@ -145,11 +147,7 @@ refused-check Good n c x e = absurd (true≢false (ap isWritten e))
 refused-check (RefusedBy y) n c x e = cc
 
 refused-by : (p : Pass) (s u : List ℕ) (x : Refusal) → passCheck s (length u) ≡ RefusedBy x → RefusedFor p s u x
-unfolding passAnswer passOutput
-refused-by p s u x e = record {
-  answer = ap (λ (a : Checked). answerAs a (length (passBytes p s)) (passCount p s)) e;
-  output = ap (λ (a : Checked). outputAs a (passBytes p s) u) e;
-}
+refused-by p s u x e = let r = run-refused p s u refl e in record { answer = sym (r .0); output = sym (r .1) }
 
 by-refused : (p : Pass) (s : List ℕ) (n : ℕ) (x : Refusal) → passAnswer p s n ≡ Refused x → passCheck s n ≡ RefusedBy x
 unfolding passAnswer
@@ -165,28 +163,24 @@ second-refused p s t u v w x room e f =
     let i = image-good s .1 (g .image) in
     let l : length (s ++ t) ≤ length w = omega (arith, length-append s t, room .joined) in
     let c = by-refused p t (length v) x f in
-    refused-by p (s ++ t) w (refusedBehind s x)
+    refused-by p (s ++ t) w (refusalBehind s x)
     (check-in (s ++ t) (length w) l
     ∙ ap₂ (λ (b : Bool) (a : Checked). cond b a (RefusedBy Length)) (joined-length s t i (room .within)) (checks-joined s t i (room .within) .behind-good (site-good s .1 g))
     ∙ length-then (length (functions (cells s))) _ (goodLength t) (siteAnswer t)
-    ∙ ap (behind s) (sym (check-in t (length v) (room .second)) ∙ c))
+    ∙ ap (answerBehind s) (sym (check-in t (length v) (room .second)) ∙ c))
 
--- an image that the image check passes has a good length
-good-length : (s : List ℕ) → imageAnswer s ≡ Good → goodLength s ≡ true
-good-length s e = let g = image-good s .0 e in simp (le-leb _ _ (g .short), g .even)
-
-site-refused : (s : List ℕ) (n : ℕ) (x : Refusal) → imageAnswer s ≡ Good → length s ≤ n → passCheck s n ≡ RefusedBy x → siteAnswer s ≡ RefusedBy x
-site-refused s n x g l e = sym (ap (λ (b : Bool). cond b (siteAnswer s) (RefusedBy Length)) (good-length s g)) ∙ sym (check-in s n l) ∙ e
+-- the check of an image that the image check passes
+check-good-image : (s : List ℕ) (n : ℕ) → imageAnswer s ≡ Good → length s ≤ n → passCheck s n ≡ siteAnswer s
+check-good-image s n e l = let g = image-good s .0 e in sym (check-sites s n (g .short) (g .even) l)
 
 pub first-refused : FirstRefused
 first-refused p s t u v w x room g h e =
     let l : length (s ++ t) ≤ length w = omega (arith, length-append s t, room .joined) in
     let c = checks-joined s t g (room .within) in
-    let y : siteAnswer s ≡ RefusedBy x = site-refused s (length u) x g (room .first) (by-refused p s (length u) x e) in
-    let i : imageAnswer (s ++ t) ≡ Good = c .image ∙ ap (behind s) h in
+    let y : siteAnswer s ≡ RefusedBy x = sym (check-good-image s (length u) g (room .first)) ∙ by-refused p s (length u) x e in
     refused-by p (s ++ t) w x
-    (check-in (s ++ t) (length w) l ∙ ap (λ (b : Bool). cond b (siteAnswer (s ++ t)) (RefusedBy Length)) (good-length (s ++ t) i)
-    ∙ c .sites ∙ ap₂ (λ (a b : Checked). orElse (behind s a) (orElse b (behind s (siteAnswer t)))) h y)
+    (check-good-image (s ++ t) (length w) (c .image ∙ ap (answerBehind s) h) l
+    ∙ c .sites ∙ ap₂ (λ (a b : Checked). orElse (answerBehind s a) (orElse b (answerBehind s (siteAnswer t)))) h y)
 
 -- ---- the converse
 

@@ -1,5 +1,5 @@
--- Promise: functions don't lean on each other (document 02, W12): what a pass answers and writes of two images joined. s and t are the images; u, v and w
--- are what is lent as the outputs of s, of t and of s ++ t, whatever they hold. No label, name, register or site is assumed anything of.
+-- Promise: functions don't lean on each other (document 02, W12): what a pass, by either rule set, answers and writes of two images joined. s and t are
+-- the images; u, v and w are what is lent as the outputs of s, of t and of s ++ t, whatever they hold. Nothing is assumed of labels, names or sites.
 use Prim.Native.Nat.{ℕ, _+_, _≤_}
 use mathlib.Core.Path.{_≡_}
 use mathlib.Core.List.{List, _++_}
@@ -11,7 +11,7 @@ use Rattle.cells.specs.Functions.{functions}
 use Rattle.cells.specs.declared.refusal.Refusal.{Refusal}
 use Rattle.cells.specs.declared.refusal.Checked.the-variants.{Good}
 use Rattle.image.specs.Image.{imageAnswer}
-use Rattle.image.specs.JoinedChecks.{refusedBehind, EndsFunction}
+use Rattle.image.specs.JoinedChecks.{refusalBehind, EndsFunction}
 use Rattle.passes.specs.Passes.{passAnswer, passOutput}
 use Rattle.passes.specs.Contracts.{isWritten, lengthWritten}
 use Rattle.passes.specs.declared.Pass.{Pass}
@@ -38,7 +38,7 @@ pub record RefusedFor (p : Pass) (s u : List ℕ) (x : Refusal) : Type 0 where
 abbrev pub written : Pass → List ℕ → List ℕ → List ℕ
 written p s u = take (lengthWritten (passAnswer p s (length u))) (passOutput p s u)
 
--- the sum of two answers: of their lengths and of their counts; `changed` if either is
+-- the sum of two answers that accept: of their lengths and of their counts; `changed` if either is
 abbrev pub countOf : Rewrite → ℕ
 countOf (Written n report) = report .«num_rewrites»
 countOf (Refused x) = 0
@@ -58,7 +58,7 @@ pub record InOrder (p : Pass) (s t u v w : List ℕ) : Type 0 where
   -- "its output is both outputs joined in that order": the bytes written, and every byte of what was lent
   pub bytes : written p (s ++ t) w ≡ written p s u ++ written p t v
   pub output : passOutput p (s ++ t) w ≡ over (written p s u ++ written p t v) w
-  -- the same function by function
+  -- the same by functions
   pub functions-back : functions (cells (written p (s ++ t) w)) ≡ functions (cells (written p s u)) ++ functions (cells (written p t v))
 
 pub record Joined (p : Pass) (s t u v w : List ℕ) : Type 0 where
@@ -66,26 +66,30 @@ pub record Joined (p : Pass) (s t u v w : List ℕ) : Type 0 where
   -- "joined the other way round, the functions' outputs are the same in the other order"
   pub other-way : InOrder p t s v u w
 
--- proved as `joined` (proofs/JoinedImages), of cleanup, of CrystalFold and of the rewrite by either rule set
+-- the theorem `joined` of proofs/JoinedImages
 abbrev pub ImagesJoin : Type 0
 ImagesJoin = (p : Pass) (s t u v w : List ℕ) → Room s t u v w → Accepted p s u → Accepted p t v → Joined p s t u v w
 
 -- ---- one is refused: whose function is at fault
 
--- proved as `second-refused`: s is accepted and t refused by x. The joined image is refused for t's reason, moved on by the functions and cells of s
+-- the theorem `second-refused`: s is accepted, t refused by x. The joined image is refused by x, moved on by the functions and the cells of s
 abbrev pub SecondRefused : Type 0
-SecondRefused = (p : Pass) (s t u v w : List ℕ) (x : Refusal) → Room s t u v w → Accepted p s u → passAnswer p t (length v) ≡ Refused x → RefusedFor p (s ++ t) w (refusedBehind s x)
+SecondRefused =
+    (p : Pass) (s t u v w : List ℕ) (x : Refusal) → Room s t u v w → Accepted p s u → passAnswer p t (length v) ≡ Refused x → RefusedFor p (s ++ t) w (refusalBehind s x)
 
--- proved as `first-refused`: a validator refuses s, by x, and the image check passes both. The joined image is refused for the same reason
+-- the theorem `first-refused`: the image check passes both, and a validator refuses s, by x. The joined image is refused by x too. (Where the image
+-- check refuses s, its last head may count cells of t: nothing is said)
 abbrev pub FirstRefused : Type 0
-FirstRefused = (p : Pass) (s t u v w : List ℕ) (x : Refusal) → Room s t u v w → imageAnswer s ≡ Good → imageAnswer t ≡ Good → passAnswer p s (length u) ≡ Refused x → RefusedFor p (s ++ t) w x
+FirstRefused =
+    (p : Pass) (s t u v w : List ℕ) (x : Refusal) → Room s t u v w → imageAnswer s ≡ Good → imageAnswer t ≡ Good → passAnswer p s (length u) ≡ Refused x → RefusedFor p (s ++ t) w x
 
 -- ---- the converse
 
--- proved as `parted`: an accepted image, cut where a function ends, is two accepted images; proved as `ends-function`: an accepted image ends a function
--- of whatever it is joined to. Cut elsewhere, both may be refused (`cut-inside` in Worked)
+-- the theorem `parted`: an accepted image, cut where a function ends, is two accepted images. Cut elsewhere, both may be refused (`cut-inside`, Worked)
 abbrev pub ImagesPart : Type 0
-ImagesPart = (p : Pass) (s t u v w : List ℕ) → length s ≤ length u → length t ≤ length v → Accepted p (s ++ t) w → EndsFunction s t → Accepted p s u × Accepted p t v
+ImagesPart =
+    (p : Pass) (s t u v w : List ℕ) → length s ≤ length u → length t ≤ length v → Accepted p (s ++ t) w → EndsFunction s t → Accepted p s u × Accepted p t v
 
+-- the theorem `ends-function`: so it is wherever the first part is accepted
 abbrev pub AcceptedEnds : Type 0
 AcceptedEnds = (p : Pass) (s t u : List ℕ) → Accepted p s u → EndsFunction s t
