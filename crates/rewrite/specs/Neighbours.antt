@@ -61,19 +61,19 @@ pairs =
     ∷ []
 
 -- the functions handed back of two, and of the two the other way round, with the counts
-pub record Rewritten : Type 0 where
+pub record HandedBack : Type 0 where
   pub back : List Function
   pub count : ℕ
   pub turned : List Function
   pub turned-count : ℕ
 
-abbrev pub asRewritten : Pair → Rewritten
+abbrev pub asRewritten : Pair → HandedBack
 asRewritten c =
     let forth : List Function = c .one .sent ∷ c .other .sent ∷ [] in
     let turned : List Function = c .other .sent ∷ c .one .sent ∷ [] in
     record { back = rewriteAll defaultRules forth; count = rewriteCountAll defaultRules forth; turned = rewriteAll defaultRules turned; turned-count = rewriteCountAll defaultRules turned }
 
-abbrev pub expected : Pair → Rewritten
+abbrev pub expected : Pair → HandedBack
 expected c = record {
   back = c .one .back ∷ c .other .back ∷ [];
   count = c .one .count + c .other .count;
