@@ -23,17 +23,32 @@ pub struct Difference {
 
 /// The answers that an image must get.
 pub struct Expected {
-    image_check: Checked,
-    site_check: Checked,
+    pub(crate) image_check: Checked,
+    pub(crate) site_check: Checked,
     /// The original's, where the image passes the image check.
-    original: Option<Answers>,
+    pub(crate) original: Option<Answers>,
     /// What the fuller rewrite writes by the model, where the image passes the site check: the
     /// original has no fuller rewrite.
-    fuller: Option<(Vec<u8>, Success)>,
+    pub(crate) fuller: Option<(Vec<u8>, Success)>,
 }
 
-fn difference(what: impl Into<String>, expected: String, got: String) -> Result<(), Difference> {
+pub(crate) fn difference(
+    what: impl Into<String>,
+    expected: String,
+    got: String,
+) -> Result<(), Difference> {
     Err(Difference { what: what.into(), expected, got })
+}
+
+/// Asks the original about an image that has passed the image check.
+pub(crate) fn ask_original(image: &[u8]) -> Result<Answers, Difference> {
+    let answers = std::panic::catch_unwind(|| original::answers(image))
+        .unwrap_or_else(|_| Err("a panic".into()));
+    answers.map_err(|got| Difference {
+        what: "the original".into(),
+        expected: "an answer with a number".into(),
+        got,
+    })
 }
 
 /// Asks the original and the model, and compares these two.
@@ -43,13 +58,7 @@ pub fn expected(image: &[u8]) -> Result<Expected, Difference> {
     if image_check.is_err() {
         return Ok(Expected { image_check, site_check, original: None, fuller: None });
     }
-    let original = std::panic::catch_unwind(|| original::answers(image))
-        .unwrap_or_else(|_| Err("a panic".into()));
-    let original = original.map_err(|got| Difference {
-        what: "the original".into(),
-        expected: "an answer with a number".into(),
-        got,
-    })?;
+    let original = ask_original(image)?;
     let fuller = site_check.is_ok().then(|| {
         let (bytes, num_rewrites) = model::rewritten(Operation::Fuller, image);
         let length = bytes.len();
@@ -73,6 +82,10 @@ pub fn expected(image: &[u8]) -> Result<Expected, Difference> {
 impl Expected {
     pub fn accepted(&self) -> bool {
         self.site_check.is_ok()
+    }
+
+    pub fn image_check(&self) -> Checked {
+        self.image_check
     }
 
     pub fn site_check(&self) -> Checked {
@@ -103,7 +116,12 @@ impl Expected {
     }
 
     /// Both of two answers accept, or both refuse and the original could give either.
-    fn sites(&self, what: &str, one: &Checked, other: &Checked) -> Result<(), Difference> {
+    pub(crate) fn sites(
+        &self,
+        what: &str,
+        one: &Checked,
+        other: &Checked,
+    ) -> Result<(), Difference> {
         let possible = &self.original.as_ref().unwrap().possible;
         let fits = match (one, other) {
             (Ok(()), Ok(())) => true,

@@ -3,7 +3,8 @@
 use crate::answers::{Operation, Operations};
 use crate::cells;
 use crate::compare::{self, hexadecimal, Difference};
-use crate::generate::{self, Exhaustive};
+use crate::generate::{self, Exhaustive, Pairs};
+use crate::joined::{self, Part};
 use crate::random::{mix, Random};
 use crate::runs::{self, Outside};
 use crate::shrink::shrink;
@@ -29,8 +30,9 @@ pub struct Count {
 pub struct Found {
     pub group: &'static str,
     pub subject: &'static str,
-    pub image: Vec<u8>,
-    /// The lent output's length, less the image's.
+    /// The image, or the two that are joined.
+    pub images: Vec<Vec<u8>>,
+    /// The lent output's length, less the image's or the joined one's.
     pub more: isize,
     pub difference: Difference,
 }
@@ -50,16 +52,38 @@ struct Worker<'a> {
 impl Worker<'_> {
     /// Compares one image, with lent outputs of the given lengths above the image's.
     fn image(&mut self, group: &'static str, image: &[u8], more: &[isize]) {
-        let expected = match compare::expected(image) {
-            Ok(expected) => expected,
-            Err(difference) => return self.found(group, "original", image, 0, difference),
+        if let Some(part) = self.ask(group, image) {
+            self.compare(group, &part, &[image], more);
+        }
+    }
+
+    /// An image with the answers that it must get, unless the original and the model differ.
+    fn ask(&mut self, group: &'static str, image: &[u8]) -> Option<Part> {
+        let found = |difference| self.found(group, "original", &[image], 0, difference);
+        Part::new(image).map_err(found).ok()
+    }
+
+    /// Compares two images joined, as far as something is claimed of them; the original too.
+    fn joined(&mut self, group: &'static str, first: &Part, second: &Part, more: &[isize]) {
+        let Some(part) = joined::joined(first, second) else {
+            return;
         };
+        let images: [&[u8]; 2] = [&first.image, &second.image];
+        match joined::check_original(&part) {
+            Ok(()) => self.compare(group, &part, &images, more),
+            Err(difference) => self.found(group, "original", &images, 0, difference),
+        }
+    }
+
+    /// Compares an image, which is one or two joined, with the answers that it must get.
+    fn compare(&mut self, group: &'static str, part: &Part, images: &[&[u8]], more: &[isize]) {
+        let Part { image, expected } = part;
         let mut comparisons = 0;
         for &more in more {
             let out = dirty(&mut self.random, image.len().saturating_add_signed(more));
             for subject in self.subjects {
                 if let Err(difference) = expected.check(*subject, image, &out) {
-                    return self.found(group, subject.name(), image, more, difference);
+                    return self.found(group, subject.name(), images, more, difference);
                 }
                 comparisons += 1;
             }
@@ -78,13 +102,13 @@ impl Worker<'_> {
         &mut self,
         group: &'static str,
         subject: &'static str,
-        image: &[u8],
+        images: &[&[u8]],
         more: isize,
         difference: Difference,
     ) {
         self.stop.store(true, Ordering::Relaxed);
-        let image = image.to_vec();
-        let found = Found { group, subject, image, more, difference };
+        let images = images.iter().map(|image| image.to_vec()).collect();
+        let found = Found { group, subject, images, more, difference };
         self.found.lock().unwrap().get_or_insert(found);
     }
 
@@ -99,7 +123,7 @@ impl Worker<'_> {
                 self.runs += runs;
                 self.entries += entries;
             }
-            Err(difference) => self.found("runs", RECORDS, image, 0, difference),
+            Err(difference) => self.found("runs", RECORDS, &[image], 0, difference),
         }
     }
 
@@ -117,7 +141,67 @@ impl Worker<'_> {
         }
     }
 
-    /// One round over the random groups.
+    /// This worker's part of the pairs of images, each joined both ways round.
+    fn every_pair(&mut self, pairs: &Pairs, first: usize, step: usize) {
+        let seconds = pairs.seconds.iter().map(|second| self.ask(pairs.name, second));
+        let Some(seconds) = seconds.collect::<Option<Vec<Part>>>() else {
+            return;
+        };
+        for first in pairs.firsts.iter().skip(first).step_by(step) {
+            let Some(first) = self.ask(pairs.name, first) else {
+                return;
+            };
+            for second in &seconds {
+                if self.stopped() {
+                    return;
+                }
+                self.both_ways(pairs.name, &first, second, pairs.more);
+            }
+        }
+    }
+
+    fn both_ways(&mut self, group: &'static str, first: &Part, second: &Part, more: &[isize]) {
+        self.joined(group, first, second, more);
+        self.joined(group, second, first, more);
+    }
+
+    /// One round over the random groups of joined images.
+    fn joined_round(&mut self) {
+        for _ in 0..25 {
+            let pair = generate::any_pair(&mut self.random);
+            self.pair(&pair, &[0, 40, -1]);
+        }
+        let pair = generate::long_pair(&mut self.random);
+        let more = self.random.pick(&[-1, 0, 0, 40]);
+        self.pair(&pair, &[more]);
+        for _ in 0..5 {
+            let image = generate::several(&mut self.random);
+            self.cuts(&image);
+        }
+    }
+
+    fn pair(&mut self, [first, second]: &[Vec<u8>; 2], more: &[isize]) {
+        let parts = (self.ask("joined", first), self.ask("joined", second));
+        if let (Some(first), Some(second)) = parts {
+            self.both_ways("joined", &first, &second, more);
+        }
+    }
+
+    /// Cuts an accepted image where its functions end: compares both parts, and both joined.
+    fn cuts(&mut self, image: &[u8]) {
+        match joined::cuts(image) {
+            Ok(cuts) => {
+                for [first, second] in &cuts {
+                    self.compare("cut", first, &[&first.image], &[0]);
+                    self.compare("cut", second, &[&second.image], &[0]);
+                    self.joined("cut", first, second, &[0]);
+                }
+            }
+            Err(difference) => self.found("cut", "original", &[image], 0, difference),
+        }
+    }
+
+    /// One round over the other random groups.
     fn round(&mut self) {
         for _ in 0..150 {
             let image = generate::any_image(&mut self.random);
@@ -203,12 +287,29 @@ pub struct Outcome {
     pub found: Option<Found>,
 }
 
+#[derive(Debug, Clone, Copy, PartialEq, Eq)]
+pub enum Groups {
+    All,
+    /// Those of images that are joined or cut.
+    Joined,
+}
+
 /// The exhaustive groups as a whole, then rounds of the random ones for the rest of
 /// the time, at least one.
-pub fn compare_all(subjects: &Subjects, seed: u64, seconds: u64, threads: usize) -> Outcome {
+pub fn compare(
+    groups: Groups,
+    subjects: &Subjects,
+    seed: u64,
+    seconds: u64,
+    threads: usize,
+) -> Outcome {
     let start = Instant::now();
     let deadline = start + Duration::from_secs(seconds);
-    let exhaustive = generate::exhaustive();
+    let exhaustive = match groups {
+        Groups::All => generate::exhaustive(),
+        Groups::Joined => Vec::new(),
+    };
+    let pairs = generate::joined_short();
     let stop = AtomicBool::new(false);
     let found = Mutex::new(None);
 
@@ -224,13 +325,17 @@ pub fn compare_all(subjects: &Subjects, seed: u64, seconds: u64, threads: usize)
                 stop: &stop,
                 found: &found,
             };
-            let exhaustive = &exhaustive;
+            let (exhaustive, pairs) = (&exhaustive, &pairs);
             scope.spawn(move || {
                 for group in exhaustive {
                     worker.every_image(group, index, threads);
                 }
+                worker.every_pair(pairs, index, threads);
                 while !worker.stopped() {
-                    worker.round();
+                    if groups == Groups::All {
+                        worker.round();
+                    }
+                    worker.joined_round();
                     if Instant::now() >= deadline {
                         break;
                     }
@@ -278,29 +383,63 @@ fn count_of<'a>(counts: &'a mut Vec<Count>, name: &'static str) -> &'a mut Count
     &mut counts[index]
 }
 
-/// The smallest image that shows the same difference.
+/// Images of more bytes are made smaller for some time only.
+const LONG: usize = 16_384;
+const LONG_FOR: Duration = Duration::from_secs(4);
+
+/// The smallest image, or the smallest two, that show the same difference.
 fn smallest(subjects: &Subjects, found: Found) -> Found {
-    let same = |image: &[u8]| {
-        shown(subjects, &found, image).is_some_and(|other| other.what == found.difference.what)
+    let deadline = Instant::now() + LONG_FOR;
+    let same = |images: &[Vec<u8>]| {
+        let long = images.iter().map(Vec::len).sum::<usize>() > LONG;
+        if long && Instant::now() > deadline {
+            return false;
+        }
+        shown(subjects, &found, images).is_some_and(|other| other.what == found.difference.what)
     };
-    if !same(&found.image) {
+    if !same(&found.images) {
         return found;
     }
-    let image = shrink(&found.image, same);
-    let difference = shown(subjects, &found, &image).unwrap();
-    Found { image, difference, ..found }
+    // Each in turn, until none becomes smaller.
+    let mut images = found.images.clone();
+    loop {
+        let before = images.clone();
+        for at in 0..images.len() {
+            let mut tried = images.clone();
+            images[at] = shrink(&images[at], |image| {
+                tried[at] = image.to_vec();
+                same(&tried)
+            });
+        }
+        if images == before {
+            break;
+        }
+    }
+    let difference = shown(subjects, &found, &images).unwrap();
+    Found { images, difference, ..found }
 }
 
-/// The difference that an image shows, if it does.
-fn shown(subjects: &Subjects, found: &Found, image: &[u8]) -> Option<Difference> {
-    let expected = match compare::expected(image) {
-        Ok(expected) => expected,
+/// The difference that an image shows, or two that are joined, if they do.
+fn shown(subjects: &Subjects, found: &Found, images: &[Vec<u8>]) -> Option<Difference> {
+    let parts = images.iter().map(|image| Part::new(image));
+    let mut parts = match parts.collect::<Result<Vec<Part>, Difference>>() {
+        Ok(parts) => parts,
         Err(difference) => return Some(difference),
     };
     if found.subject == RECORDS {
-        return records(image, &mut Random::new(0), 200).err();
+        return records(&images[0], &mut Random::new(0), 200).err();
     }
+    let part = match &parts[..] {
+        [first, second] => {
+            let part = joined::joined(first, second)?;
+            if let Err(difference) = joined::check_original(&part) {
+                return Some(difference);
+            }
+            part
+        }
+        _ => parts.pop()?,
+    };
     let subject = subjects.iter().find(|subject| subject.name() == found.subject)?;
-    let out = dirty(&mut Random::new(0), image.len().saturating_add_signed(found.more));
-    expected.check(*subject, image, &out).err()
+    let out = dirty(&mut Random::new(0), part.image.len().saturating_add_signed(found.more));
+    part.expected.check(*subject, &part.image, &out).err()
 }

@@ -1,5 +1,6 @@
 //! Images: every short one over small alphabets, every byte of every command,
-//! every fold at its edges; random ones, ones around the limits, damaged ones.
+//! every fold at its edges; random ones, ones around the limits, damaged ones; and two at a time,
+//! to be joined.
 
 use crate::cells::{self, Cell, CELL, MAX_EVENTS, MAX_IMAGE, MAX_INSTRS, REGISTERS};
 use crate::codec::Form;
@@ -542,6 +543,77 @@ pub fn events_for(instrs: &[Cell], mut writes: impl FnMut(u32) -> usize) -> Vec<
         }
     }
     events
+}
+
+/// Two lists of images. Each of the one is joined with each of the other, both ways round.
+pub struct Pairs {
+    pub name: &'static str,
+    pub firsts: Vec<Vec<u8>>,
+    pub seconds: Vec<Vec<u8>>,
+    /// Lengths of the lent outputs, less the joined image's.
+    pub more: &'static [isize],
+}
+
+/// Short functions, one of which would change the next if something were carried over: a label, a
+/// jump, a return, a load, a known register, a site. Lists of up to 3 cells with those of up to 2,
+/// with the events that the sites ask for; no function, a function without instructions, and an
+/// image for each refusal among both.
+pub fn joined_short() -> Pairs {
+    let alphabet = [
+        label(1),
+        label(2),
+        jmp(1),
+        ret(None),
+        load_i32(1, 5),
+        leaves::load(1, Const::Bool(true)),
+        computed(byte::AddI32, 2, 1, 1),
+        store_var(1, Some(1), Some(2)),
+        make_record(3, Some(2)),
+    ];
+    let images = |longest: usize| {
+        let short = (0..words(&alphabet, longest)).map(|index| {
+            let instrs = word(&alphabet, index);
+            one_function(&instrs, &events_for(&instrs, |_| 2))
+        });
+        let mut images: Vec<Vec<u8>> = short.collect();
+        images.extend([vec![], one_function(&[], &[borrow(None)])]);
+        images.extend(one_a_refusal());
+        images
+    };
+    let (firsts, seconds) = (images(3), images(2));
+    Pairs { name: "joined, short", firsts, seconds, more: &[0, -1] }
+}
+
+/// An image for each number from 1 to 26 with which it is refused; for 2, 3 and 4 one in which
+/// another function stands before and one in which none does.
+pub fn one_a_refusal() -> Vec<Vec<u8>> {
+    let store = store_var(1, Some(1), Some(2));
+    let [no_head, unknown, unknown_event] = [0, 0x52, 2].map(|byte| cell(byte, &[]));
+    let sites: [(&[Cell], &[Cell]); 10] = [
+        (&[store, store], &[]),
+        (&[store], &[event(cells::EVENT_WRITE, Some(1), Some(2))]),
+        (&[store], &[borrow(Some(1)), write(2), borrow(Some(1))]),
+        (&[store], &[write(2)]),
+        (&[store, make_record(1, Some(2))], &[borrow(Some(1)), write(2)]),
+        (&[], &[event(cells::EVENT_BORROW, None, Some(2))]),
+        (&[], &[event(cells::EVENT_WRITE, None, None)]),
+        (&[store], &[borrow(Some(1))]),
+        (&[store], &[borrow(Some(1)), write(2), write(2)]),
+        (&[], &[write(2)]),
+    ];
+    let cells = [
+        no_head.to_vec(),
+        // It ends before the cell that its head promises.
+        cells::head(7, 1, 0).to_vec(),
+        one_function(&[label(1), unknown], &[]),
+        one_function(&[], &[unknown_event]),
+        one_function(&[label(1), load_i32(REGISTERS as u16, 5)], &[]),
+    ];
+    let behind =
+        cells.iter().map(|image| [one_function(&[ret(None)], &[]), image.clone()].concat());
+    let sites = sites.iter().map(|(instrs, events)| one_function(instrs, events));
+    let length = vec![cells::HEAD; CELL + 1];
+    behind.chain(cells.clone()).chain(sites).chain([length]).collect()
 }
 
 /// Every two commands after two loads, into registers 256 apart, and before a fold of what these
@@ -1103,16 +1175,19 @@ fn any_shape(random: &mut Random) -> Shape {
     }
 }
 
+fn any_often(random: &mut Random) -> Often {
+    Often {
+        quads: random.pick(&[0, 20, 60]),
+        divisions: random.pick(&[0, 0, 15, 40]),
+        far: random.pick(&[0, 20, 50]),
+    }
+}
+
 /// Up to four functions, most with good sites.
 pub fn any_image(random: &mut Random) -> Vec<u8> {
     let mut image = Vec::new();
     for _ in 0..random.pick(&[0, 1, 1, 1, 1, 2, 3, 4]) {
-        let shape = any_shape(random);
-        let often = Often {
-            quads: random.pick(&[0, 20, 60]),
-            divisions: random.pick(&[0, 0, 15, 40]),
-            far: random.pick(&[0, 20, 50]),
-        };
+        let (shape, often) = (any_shape(random), any_often(random));
         let (mut instrs, mut events) = any_function_with(random, shape, often);
         if random.chance(25) {
             spoil(random, &mut instrs, &mut events);
@@ -1218,6 +1293,68 @@ fn rename_register(random: &mut Random, cell: &mut Cell) {
         _ => random.pick(&[1, 2, 3, 4, 5, 0x7F, 0x80, 0xFF]) << 8 | random.below(12) as u16,
     };
     put_half(cell, random.pick(&registers), number);
+}
+
+// ---- Images to be joined or cut ----
+
+/// Two to four functions, all with good sites.
+pub fn several(random: &mut Random) -> Vec<u8> {
+    let mut image = Vec::new();
+    for name in 0..random.range(2, 4) {
+        let (shape, often) = (any_shape(random), any_often(random));
+        let (instrs, events) = any_function_with(random, shape, often);
+        cells::push_function(&mut image, name as u16, &instrs, &events);
+    }
+    image
+}
+
+/// Two images; in one of ten pairs the same twice, so that both have each label and each site.
+pub fn any_pair(random: &mut Random) -> [Vec<u8>; 2] {
+    let first = any_part(random);
+    let second = if random.chance(10) { first.clone() } else { any_part(random) };
+    [first, second]
+}
+
+fn any_part(random: &mut Random) -> Vec<u8> {
+    match random.below(20) {
+        0..=8 => any_image(random),
+        9..=13 => several(random),
+        14..=18 => damaged(random),
+        _ => {
+            let functions = functions();
+            (functions.image)(random.below(functions.count))
+        }
+    }
+}
+
+/// Two images of which one is around a limit; or good ones that are 65,536 bytes together, with
+/// more instructions or more events than one function may have, or a cell more or less.
+pub fn long_pair(random: &mut Random) -> [Vec<u8>; 2] {
+    let most = MAX_IMAGE / CELL;
+    match random.below(5) {
+        0 => [limit(random), any_image(random)],
+        1 => pair_of(random, most, MAX_INSTRS - 1, 0),
+        2 => pair_of(random, most, 900, MAX_EVENTS),
+        3 => pair_of(random, most + 1, MAX_INSTRS - 1, 0),
+        _ => pair_of(random, most - 1, MAX_INSTRS - 2, 0),
+    }
+}
+
+/// Two images of so many cells together. The first is a function of at most so many instructions
+/// and, if any, so many events; so is the first function of the second.
+fn pair_of(random: &mut Random, cells: usize, instrs: usize, events: usize) -> [Vec<u8>; 2] {
+    let [first, mut second] = [(); 2].map(|()| {
+        let instrs = random.range(instrs / 2, instrs);
+        filled_function(random, instrs, Some(events))
+    });
+    loop {
+        let left = cells - (first.len() + second.len()) / CELL;
+        if left == 0 {
+            return [first, second];
+        }
+        let instrs = random.below(left.min(MAX_INSTRS + 1));
+        second.extend(filled_function(random, instrs, Some(0)));
+    }
 }
 
 // ---- Limits ----

@@ -8,6 +8,7 @@ pub mod compare;
 pub mod driver;
 pub mod frontend;
 pub mod generate;
+pub mod joined;
 pub mod leaves;
 pub mod legacy_lowering;
 pub mod library;

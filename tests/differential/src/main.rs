@@ -3,7 +3,7 @@
 
 use differential::answers::{Operation, Operations};
 use differential::compare::{self, hexadecimal};
-use differential::driver::{compare_all, Count, Found, Outcome};
+use differential::driver::{self, Count, Found, Groups, Outcome};
 use differential::model::Model;
 use differential::program::{self, Program};
 use differential::random::{mix, Random};
@@ -141,7 +141,8 @@ fn compare(options: &Options) -> Result<String, String> {
     println!("runs: Label 1, Jmp 1, Label 1 differs from what is returned, as it must");
 
     let subjects = subjects();
-    let outcome = compare_all(&subjects, options.seed, options.seconds, options.threads);
+    let outcome =
+        driver::compare(Groups::All, &subjects, options.seed, options.seconds, options.threads);
     report(&outcome);
     let Some(found) = outcome.found else {
         let names: Vec<&str> = subjects.iter().map(|subject| subject.name()).collect();
@@ -151,10 +152,15 @@ fn compare(options: &Options) -> Result<String, String> {
             names.join(", ")
         ));
     };
-    let Found { group, subject, image, more, difference } = found;
+    let Found { group, subject, images, more, difference } = found;
     println!("DIFFERENCE: {}; group {group}, seed {}", difference.what, options.seed);
-    println!("image, {} bytes", image.len());
-    println!("{}", hexadecimal(&image));
+    if let [_, _] = images[..] {
+        println!("two images, joined in this order");
+    }
+    for image in &images {
+        println!("image, {} bytes", image.len());
+        println!("{}", hexadecimal(image));
+    }
     println!("lent output longer by {more}");
     println!("expected: {}", difference.expected);
     Err(format!("{subject}: {}", difference.got))

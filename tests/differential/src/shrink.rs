@@ -3,20 +3,20 @@
 use crate::cells::{self, CELL};
 
 /// Takes away functions, cells and bytes as long as `shows` holds.
-pub fn shrink(image: &[u8], shows: impl Fn(&[u8]) -> bool) -> Vec<u8> {
+pub fn shrink(image: &[u8], mut shows: impl FnMut(&[u8]) -> bool) -> Vec<u8> {
     let mut best = image.to_vec();
     loop {
         let smaller = candidates(&best).find(|candidate| shows(candidate));
         match smaller {
             Some(smaller) => best = smaller,
-            None if smaller_bytes(&mut best, &shows) => {}
+            None if smaller_bytes(&mut best, &mut shows) => {}
             None => return best,
         }
     }
 }
 
 /// Makes each byte in turn as small as `shows` allows; says whether one became smaller.
-fn smaller_bytes(image: &mut [u8], shows: impl Fn(&[u8]) -> bool) -> bool {
+fn smaller_bytes(image: &mut [u8], mut shows: impl FnMut(&[u8]) -> bool) -> bool {
     let mut changed = false;
     for at in 0..image.len() {
         let byte = image[at];

@@ -6,7 +6,7 @@ use differential::answers::{
 use differential::cells::{self, CELL};
 use differential::codec::{Form, Operand};
 use differential::compare;
-use differential::driver::compare_all;
+use differential::driver::{self, Groups};
 use differential::generate::{
     self, borrow, computed, computed_commands, default_commands, jmp, jmp_if, label, load_i32,
     make_record, one_function, ret, store_var, write,
@@ -752,9 +752,9 @@ impl Operations for Wrong {
 fn every_wrong_program_is_found() {
     for fault in FAULTS {
         let wrong = Wrong { fault };
-        let outcome = compare_all(&[&wrong], 1, 0, 1);
+        let outcome = driver::compare(Groups::All, &[&wrong], 1, 0, 1);
         let found = outcome.found.unwrap_or_else(|| panic!("{fault:?} isn't found"));
-        let cells = found.image.len().div_ceil(CELL);
+        let cells = found.images.concat().len().div_ceil(CELL);
         println!("{fault:?}: {}, {cells} cells", found.difference.what);
         // A head, one write more than are forgotten, a barrier, and what it leaves known.
         let most = if let Fault::ForgetsTheFirst(many) = fault { many + 4 } else { 5 };
@@ -765,6 +765,26 @@ fn every_wrong_program_is_found() {
             .any(|what| found.difference.what.starts_with(what));
         let must = BY_THE_ORIGINAL.contains(&fault);
         assert!(by_the_original || !must, "{fault:?} isn't found by the original");
+    }
+}
+
+/// These the groups of joined images alone find too: what is known in the next function, the order
+/// of refusals, bytes that aren't the operation's to touch.
+#[test]
+fn found_by_joined_images() {
+    for fault in [
+        Fault::KnownInTheNextFunction,
+        Fault::KnownInTheNextFunctionWithoutEvents,
+        Fault::SitesBeforeCells,
+        Fault::TooShortBeforeMeasuring,
+        Fault::WritesBeforeChecking,
+        Fault::TouchesAByteBeyond,
+        Fault::ClearsTheRest,
+        Fault::FullerClearsTheRest,
+    ] {
+        let outcome = driver::compare(Groups::Joined, &[&Wrong { fault }], 1, 20, 1);
+        let found = outcome.found.unwrap_or_else(|| panic!("{fault:?} isn't found"));
+        assert_eq!((found.group, found.images.len()), ("joined, short", 2), "{fault:?}");
     }
 }
 
