@@ -103,6 +103,8 @@ def behind(first, second):
     functions, cells = counts(first.image)
 
     def moved(number, position, detail):
+        if number == 1:
+            return number, position, detail
         return number, position + functions, detail + (cells if number in (2, 3, 4) else 0)
 
     def answer(operation):

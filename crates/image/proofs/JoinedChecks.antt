@@ -206,7 +206,7 @@ module _ (s t : List ℕ) (g : imageAnswer s ≡ Good) (short : length s + lengt
   joined-functions : functions (cells (s ++ t)) ≡ functions (cells s) ++ functions (cells t)
   joined-functions = functions-joined s t (image-good s .0 g)
 
-  pub joined-length : goodLength (s ++ t) ≡ goodLength t
+  joined-length : goodLength (s ++ t) ≡ goodLength t
   joined-length =
       let n = length-append s t in
       let e = accepted s g .1 in

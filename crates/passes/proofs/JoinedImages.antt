@@ -22,17 +22,16 @@ use Rattle.crystalfold.specs.Rules.{rulesOf}
 use Rattle.rewrite.proofs.Append.{clean-append, fold-append, rewrite-append, clean-count-append, folds-append, rewrite-count-append}
 use Rattle.image.specs.Image.{goodLength, imageAnswer}
 use Rattle.image.specs.SiteCheck.{siteAnswer, SitesPass}
-use Rattle.image.specs.JoinedChecks.{movedAnswer, refusalBehind, answerBehind}
+use Rattle.image.specs.JoinedChecks.{refusalBehind, answerBehind}
 use Rattle.image.proofs.Good.{image-good, site-good, functions-joined}
-use Rattle.image.proofs.JoinedChecks.{checks-joined, cells-joined, joined-length, parts-pass, passed-ends}
+use Rattle.image.proofs.JoinedChecks.{checks-joined, cells-joined, parts-pass, passed-ends}
 use Rattle.passes.specs.Passes.{passAll, countAll, passBytes, passCount, passCheck, answerAs, outputAs, report, passAnswer, passOutput}
 use Rattle.passes.specs.Contracts.{isWritten, lengthWritten}
-use Rattle.passes.specs.Joined.{Room, Accepted, RefusedFor, written, sum, InOrder, ImagesJoin, SecondRefused, FirstRefused, ImagesPart, AcceptedEnds}
+use Rattle.passes.specs.Joined.{Room, Accepted, RefusedFor, written, sum, InOrder, ImagesJoin, SecondRefused, SecondUnread, FirstRefused, ImagesPart, AcceptedEnds}
 use Rattle.passes.specs.declared.Pass.{Pass}
 use Rattle.passes.specs.declared.Pass.the-variants.{Cleanup, CrystalFold, Both}
 use Rattle.passes.specs.declared.Rewrite.{Rewrite}
 use Rattle.passes.specs.declared.Rewrite.the-variants.{Written, Refused}
-use Rattle.passes.proofs.Checked.{check-sites}
 use Rattle.passes.proofs.Done.{check-good, pass-done}
 use Rattle.passes.proofs.Answered.{run-refused}
 
@@ -137,10 +136,16 @@ joined p s t u v w room e f = record {
 
 -- ---- one refused
 
--- the check of an image in an output that is long enough
-check-in : (s : List ℕ) (n : ℕ) → length s ≤ n → passCheck s n ≡ cond (goodLength s) (siteAnswer s) (RefusedBy Length)
-unfolding passCheck
-check-in s n l = ap (λ (b : Bool). cond (goodLength s) (orElse (unless b OutputTooShort) (siteAnswer s)) (RefusedBy Length)) (le-leb (length s) n l)
+-- with an output that is long enough an operation is refused as the site check, whose image check tests the length too
+length-once : (b : Bool) (a v : Checked) → cond b (orElse (cond b a (RefusedBy Length)) v) (RefusedBy Length) ≡ orElse (cond b a (RefusedBy Length)) v
+length-once true a v = refl
+length-once false a v = refl
+
+check-in : (s : List ℕ) (n : ℕ) → length s ≤ n → passCheck s n ≡ siteAnswer s
+unfolding passCheck siteAnswer imageAnswer
+check-in s n l =
+    ap (λ (b : Bool). cond (goodLength s) (orElse (unless b OutputTooShort) (siteAnswer s)) (RefusedBy Length)) (le-leb (length s) n l)
+    ∙ length-once (goodLength s) _ _
 
 refused-check : (a : Checked) (n c : ℕ) (x : Refusal) → answerAs a n c ≡ Refused x → a ≡ RefusedBy x
 refused-check Good n c x e = absurd (true≢false (ap isWritten e))
@@ -153,34 +158,29 @@ by-refused : (p : Pass) (s : List ℕ) (n : ℕ) (x : Refusal) → passAnswer p 
 unfolding passAnswer
 by-refused p s n x e = refused-check (passCheck s n) (length (passBytes p s)) (passCount p s) x e
 
-length-then : (p d : ℕ) (b : Bool) (a : Checked) → cond b (movedAnswer p d a) (RefusedBy Length) ≡ movedAnswer p d (cond b a (RefusedBy Length))
-length-then p d true a = refl
-length-then p d false a = refl
+site-refused : (p : Pass) (s u : List ℕ) (x : Refusal) → length s ≤ length u → passAnswer p s (length u) ≡ Refused x → siteAnswer s ≡ RefusedBy x
+site-refused p s u x l e = sym (check-in s (length u) l) ∙ by-refused p s (length u) x e
+
+-- the joined image, by the site check's answer
+joined-refused : (p : Pass) (s t u v w : List ℕ) (x : Refusal) → Room s t u v w → siteAnswer (s ++ t) ≡ RefusedBy x → RefusedFor p (s ++ t) w x
+joined-refused p s t u v w x room e = refused-by p (s ++ t) w x (check-in (s ++ t) (length w) (omega (arith, length-append s t, room .joined)) ∙ e)
 
 pub second-refused : SecondRefused
 second-refused p s t u v w x room e f =
     let g = accepted p s u e .0 in
-    let i = image-good s .1 (g .image) in
-    let l : length (s ++ t) ≤ length w = omega (arith, length-append s t, room .joined) in
-    let c = by-refused p t (length v) x f in
-    refused-by p (s ++ t) w (refusalBehind s x)
-    (check-in (s ++ t) (length w) l
-    ∙ ap₂ (λ (b : Bool) (a : Checked). cond b a (RefusedBy Length)) (joined-length s t i (room .within)) (checks-joined s t i (room .within) .behind-good (site-good s .1 g))
-    ∙ length-then (length (functions (cells s))) _ (goodLength t) (siteAnswer t)
-    ∙ ap (answerBehind s) (sym (check-in t (length v) (room .second)) ∙ c))
+    joined-refused p s t u v w (refusalBehind s x) room
+    (checks-joined s t (image-good s .1 (g .image)) (room .within) .behind-good (site-good s .1 g) ∙ ap (answerBehind s) (site-refused p t v x (room .second) f))
 
--- the check of an image that the image check passes
-check-good-image : (s : List ℕ) (n : ℕ) → imageAnswer s ≡ Good → length s ≤ n → passCheck s n ≡ siteAnswer s
-check-good-image s n e l = let g = image-good s .0 e in sym (check-sites s n (g .short) (g .even) l)
+pub second-unread : SecondUnread
+second-unread p s t u v w x room g h =
+    joined-refused p s t u v w (refusalBehind s x) room
+    (checks-joined s t g (room .within) .sites ∙ ap (λ (a : Checked). orElse (answerBehind s a) (orElse (siteAnswer s) (answerBehind s (siteAnswer t)))) h)
 
 pub first-refused : FirstRefused
 first-refused p s t u v w x room g h e =
-    let l : length (s ++ t) ≤ length w = omega (arith, length-append s t, room .joined) in
-    let c = checks-joined s t g (room .within) in
-    let y : siteAnswer s ≡ RefusedBy x = sym (check-good-image s (length u) g (room .first)) ∙ by-refused p s (length u) x e in
-    refused-by p (s ++ t) w x
-    (check-good-image (s ++ t) (length w) (c .image ∙ ap (answerBehind s) h) l
-    ∙ c .sites ∙ ap₂ (λ (a b : Checked). orElse (answerBehind s a) (orElse b (answerBehind s (siteAnswer t)))) h y)
+    joined-refused p s t u v w x room
+    (checks-joined s t g (room .within) .sites
+    ∙ ap₂ (λ (a b : Checked). orElse (answerBehind s a) (orElse b (answerBehind s (siteAnswer t)))) h (site-refused p s u x (room .first) e))
 
 -- ---- the converse
 

@@ -9,7 +9,7 @@ use Rattle.cells.specs.Cells.{cells, over}
 use Rattle.cells.specs.Check.{maxImage}
 use Rattle.cells.specs.Functions.{functions}
 use Rattle.cells.specs.declared.refusal.Refusal.{Refusal}
-use Rattle.cells.specs.declared.refusal.Checked.the-variants.{Good}
+use Rattle.cells.specs.declared.refusal.Checked.the-variants.{Good, Refused as RefusedBy}
 use Rattle.image.specs.Image.{imageAnswer}
 use Rattle.image.specs.JoinedChecks.{refusalBehind, EndsFunction}
 use Rattle.passes.specs.Passes.{passAnswer, passOutput}
@@ -38,7 +38,7 @@ pub record RefusedFor (p : Pass) (s u : List ℕ) (x : Refusal) : Type 0 where
 abbrev pub written : Pass → List ℕ → List ℕ → List ℕ
 written p s u = take (lengthWritten (passAnswer p s (length u))) (passOutput p s u)
 
--- the sum of two answers that accept: of their lengths and of their counts; `changed` if either is
+-- success with the sum of two answers' lengths and of their counts; `changed` if either is
 abbrev pub countOf : Rewrite → ℕ
 countOf (Written n report) = report .«num_rewrites»
 countOf (Refused x) = 0
@@ -70,15 +70,19 @@ pub record Joined (p : Pass) (s t u v w : List ℕ) : Type 0 where
 abbrev pub ImagesJoin : Type 0
 ImagesJoin = (p : Pass) (s t u v w : List ℕ) → Room s t u v w → Accepted p s u → Accepted p t v → Joined p s t u v w
 
--- ---- one is refused: whose function is at fault
+-- ---- one is refused: whose function is at fault. Where the image check refuses s, its last head may count cells of t, and nothing is said
 
 -- the theorem `second-refused`: s is accepted, t refused by x. The joined image is refused by x, moved on by the functions and the cells of s
 abbrev pub SecondRefused : Type 0
 SecondRefused =
     (p : Pass) (s t u v w : List ℕ) (x : Refusal) → Room s t u v w → Accepted p s u → passAnswer p t (length v) ≡ Refused x → RefusedFor p (s ++ t) w (refusalBehind s x)
 
--- the theorem `first-refused`: the image check passes both, and a validator refuses s, by x. The joined image is refused by x too. (Where the image
--- check refuses s, its last head may count cells of t: nothing is said)
+-- the theorem `second-unread`: the image check passes s and refuses t, by x. It is the same, whatever the validators say of s
+abbrev pub SecondUnread : Type 0
+SecondUnread =
+    (p : Pass) (s t u v w : List ℕ) (x : Refusal) → Room s t u v w → imageAnswer s ≡ Good → imageAnswer t ≡ RefusedBy x → RefusedFor p (s ++ t) w (refusalBehind s x)
+
+-- the theorem `first-refused`: the image check passes both, and a validator refuses s, by x. The joined image is refused by x too
 abbrev pub FirstRefused : Type 0
 FirstRefused =
     (p : Pass) (s t u v w : List ℕ) (x : Refusal) → Room s t u v w → imageAnswer s ≡ Good → imageAnswer t ≡ Good → passAnswer p s (length u) ≡ Refused x → RefusedFor p (s ++ t) w x
