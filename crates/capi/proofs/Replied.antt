@@ -14,13 +14,16 @@ use Rattle.cells.specs.declared.refusal.Checked.the-variants.{Good, Refused as 
 use Rattle.image.specs.Image.{GoodImage}
 use Rattle.image.specs.SiteCheck.{SitesPass}
 use Rattle.image.specs.Operations.{ImageChecked, SiteChecked}
+use Rattle.pages.specs.Contracts.{isLaid, PagesDone}
+use Rattle.pages.specs.declared.Paged.{Paged}
+use Rattle.pages.specs.declared.Paged.the-variants.{Laid, Refused as RefusedPages, TooShort}
 use Rattle.passes.specs.Contracts.{isWritten, PassDone, RewriteDone}
 use Rattle.passes.specs.declared.Pass.{Pass}
 use Rattle.crystalfold.specs.declared.rules.RuleSet.{RuleSet}
 use Rattle.passes.specs.declared.Rewrite.{Rewrite}
 use Rattle.passes.specs.declared.Rewrite.the-variants.{Written, Refused}
-use Rattle.capi.specs.Replies.{checkReply, rewriteReply}
-use Rattle.capi.specs.Contracts.{ImageReplied, SitesReplied, PassReplied, RewriteReplied}
+use Rattle.capi.specs.Replies.{checkReply, rewriteReply, pagesReply}
+use Rattle.capi.specs.Contracts.{ImageReplied, SitesReplied, PassReplied, RewriteReplied, PagesReplied}
 use Rattle.capi.specs.declared.Reply.{Reply}
 
 -- ---- 0 is no refusal's number
@@ -50,6 +53,11 @@ rewrite-zero : (r : Rewrite) → (rewriteReply r .number ≡ 0) ↔ (isWritten r
 rewrite-zero (Written n report) = ((λ e. refl), (λ e. refl))
 rewrite-zero (Refused x) = ((λ e. absurd (refused x e)), (λ e. absurd (true≢false (sym e))))
 
+pages-zero : (r : Paged) → (pagesReply r .number ≡ 0) ↔ (isLaid r ≡ true)
+pages-zero (Laid n) = ((λ e. refl), (λ e. refl))
+pages-zero (RefusedPages x) = ((λ e. absurd (refused x e)), (λ e. absurd (true≢false (sym e))))
+pages-zero TooShort = ((λ e. absurd (omega (arith, e))), (λ e. absurd (true≢false (sym e))))
+
 -- ---- the promises, for the numbers q of an answer r
 
 abbrev number-of : Reply → ℕ
@@ -78,4 +86,12 @@ rewrite-replied k s before after r q h e = record {
   reply = e ∙ ap rewriteReply (h .done .answer);
   accepted = via e (rewrite-zero r) (h .done .accepted);
   done = rw (sym (h .done .answer)) h;
+}
+
+pub pages-replied : (s before after : List ℕ) (r : Paged) (q : Reply) → PagesDone s before after r → q ≡ pagesReply r
+    → PagesReplied s before after (q .number) (q .first) (q .second)
+pages-replied s before after r q h e = record {
+  reply = e ∙ ap pagesReply (h .answer);
+  accepted = via e (pages-zero r) (h .accepted);
+  done = rw (sym (h .answer)) h;
 }

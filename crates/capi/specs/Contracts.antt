@@ -7,12 +7,14 @@ use mathlib.Core.List.{List}
 use lib.ListN.{length}
 use Rattle.image.specs.Image.{imageAnswer, GoodImage}
 use Rattle.image.specs.SiteCheck.{siteAnswer, SitesPass}
+use Rattle.pages.specs.Pages.{pagesText}
+use Rattle.pages.specs.Contracts.{pagesAnswer, PagesDone}
 use Rattle.passes.specs.Passes.{passAnswer}
 use Rattle.passes.specs.Contracts.{PassDone, RewriteDone}
 use Rattle.passes.specs.declared.Pass.{Pass}
 use Rattle.passes.specs.declared.Pass.the-variants.{Both}
 use Rattle.crystalfold.specs.declared.rules.RuleSet.{RuleSet}
-use Rattle.capi.specs.Replies.{three, checkReply, rewriteReply}
+use Rattle.capi.specs.Replies.{three, checkReply, rewriteReply, pagesReply}
 
 pub record ImageReplied (s : List ℕ) (number first second : ℕ) : Type 0 where
   pub reply : three number first second ≡ checkReply (imageAnswer s)
@@ -33,3 +35,10 @@ pub record RewriteReplied (k : RuleSet) (s before after : List ℕ) (number firs
   pub reply : three number first second ≡ rewriteReply (passAnswer (Both k) s (length before))
   pub accepted : (number ≡ 0) ↔ (SitesPass s × (length s ≤ length before))
   pub done : RewriteDone k s before after (passAnswer (Both k) s (length before))
+
+-- the pages
+pub record PagesReplied (s before after : List ℕ) (number first second : ℕ) : Type 0 where
+  pub reply : three number first second ≡ pagesReply (pagesAnswer s (length before))
+  pub accepted : (number ≡ 0) ↔ (SitesPass s × (length (pagesText s) ≤ length before))
+  -- every byte of the buffer, and all that `pages` promises
+  pub done : PagesDone s before after (pagesAnswer s (length before))

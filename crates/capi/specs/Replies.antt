@@ -1,4 +1,4 @@
--- Promise: the answers of the operations as three numbers. 0 and what a success holds; or document 01's number of the refusal, the function's
+-- Promise: the answers of the operations as three numbers. 0 and what a success holds; or the document's number of the refusal, the function's
 -- position and the detail.
 use Prim.Native.Nat.{ℕ}
 use Rattle.cells.specs.Refusals.{numbersOf}
@@ -7,6 +7,8 @@ use Rattle.cells.specs.declared.refusal.Checked.{Checked}
 use Rattle.cells.specs.declared.refusal.Checked.the-variants.{Good, Refused as RefusedBy}
 use Rattle.passes.specs.declared.Rewrite.{Rewrite}
 use Rattle.passes.specs.declared.Rewrite.the-variants.{Written, Refused}
+use Rattle.pages.specs.declared.Paged.{Paged}
+use Rattle.pages.specs.declared.Paged.the-variants.{Laid, Refused as RefusedPages, TooShort}
 use Rattle.capi.specs.declared.Reply.{Reply}
 
 abbrev pub three : ℕ → ℕ → ℕ → Reply
@@ -24,3 +26,9 @@ checkReply (RefusedBy x) = refusalReply x
 abbrev pub rewriteReply : Rewrite → Reply
 rewriteReply (Written n report) = three 0 n (report .«num_rewrites»)
 rewriteReply (Refused x) = refusalReply x
+
+-- the length written, and 0; 30 where the buffer is shorter than the pages (document 02, W1)
+abbrev pub pagesReply : Paged → Reply
+pagesReply (Laid n) = three 0 n 0
+pagesReply (RefusedPages x) = refusalReply x
+pagesReply TooShort = three 30 0 0

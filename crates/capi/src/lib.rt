@@ -1,12 +1,13 @@
 // The operations for C and Rust: answers are numbers, and two of them are written through references.
 use cells::refusal;
 use cells::refusal::Checked;
+use pages::Paged;
 use passes::Rewrite;
 ghost use mathlib.Core.Path.{_≡_};
 ghost use Rattle.crystalfold.specs.declared.rules.RuleSet.the-variants.{Default, Fuller};
 ghost use Rattle.passes.specs.declared.Pass.the-variants.{Cleanup, CrystalFold};
-ghost use Rattle.capi.specs.Replies.{refusalReply, checkReply, rewriteReply};
-ghost use Rattle.capi.specs.Contracts.{ImageReplied, SitesReplied, PassReplied, RewriteReplied};
+ghost use Rattle.capi.specs.Replies.{refusalReply, checkReply, rewriteReply, pagesReply};
+ghost use Rattle.capi.specs.Contracts.{ImageReplied, SitesReplied, PassReplied, RewriteReplied, PagesReplied};
 
 // An answer in three numbers: 0 or the refusal's number, then two more.
 pub struct Reply {
@@ -109,6 +110,22 @@ pub extern "C" fn matchdesk_rewrite_fuller(
     r.number
 }
 
+// Pages: 0, the length written and 0; or the refusal's number, position and detail.
+#[no_mangle]
+pub extern "C" fn matchdesk_pages(
+    image: &[u8],
+    out: &mut [u8],
+    first: &mut usize,
+    second: &mut usize,
+) -> usize
+    ensures { λ r. ⌜ PagesReplied (now (image .entry)) (now (out .entry)) (now (out .exit)) r (now (first .exit)) (now (second .exit)) ⌝ }
+{
+    let r = reply_of_pages(pages::pages(image, out));
+    *first = r.first;
+    *second = r.second;
+    r.number
+}
+
 fn reply_of_refusal(x: refusal::Refusal) -> Reply
     ensures { λ r. ⌜ r ≡ refusalReply x ⌝ }
 {
@@ -143,5 +160,23 @@ fn reply_of_rewrite(w: Rewrite) -> Reply
             second: report.num_rewrites,
         },
         Rewrite::Refused(x) => reply_of_refusal(x),
+    }
+}
+
+fn reply_of_pages(w: Paged) -> Reply
+    ensures { λ r. ⌜ r ≡ pagesReply w ⌝ }
+{
+    match w {
+        Paged::Laid(n) => Reply {
+            number: 0,
+            first: n,
+            second: 0,
+        },
+        Paged::Refused(x) => reply_of_refusal(x),
+        Paged::TooShort => Reply {
+            number: 30,
+            first: 0,
+            second: 0,
+        },
     }
 }

@@ -8,7 +8,7 @@ use native.Mathlib.Nat.{le-of-suc-le-suc, not-suc-le-zero}
 use native.Mathlib.Numerals.{add-one}
 use native.Mathlib.Omega.{arith}
 use lib.ListN.{length, getD, take, drop}
-use lib.Seq.{take-suc, drop-cons, getD-take, length-take-le}
+use lib.Seq.{take-suc, take-at, drop-at, drop-cons, getD-take, length-take-le}
 use Rattle.cells.specs.Lists.{one, any, tally, only, All}
 use Rattle.cells.specs.Spans.{part}
 use Rattle.cells.proofs.Facts.{by-test, clash}
@@ -213,3 +213,11 @@ module _ {A : Type 0} where
   pub nothing-in : (xs : List A) → length xs ≡ 0 → xs ≡ []
   nothing-in [] e = refl
   nothing-in (x ∷ xs) e = absurd (omega arith)
+
+-- two lists that are equal, split after as many elements
+module _ {A : Type 0} (n : ℕ) (a x b y : List A) (la : length a ≡ n) (lb : length b ≡ n) (e : a ++ x ≡ b ++ y) where
+  pub same-front : a ≡ b
+  same-front = sym (take-at a x n la) ∙ ap (take n) e ∙ take-at b y n lb
+
+  pub same-back : x ≡ y
+  same-back = sym (drop-at a x n la) ∙ ap (drop n) e ∙ drop-at b y n lb

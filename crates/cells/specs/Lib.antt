@@ -7,6 +7,7 @@ pub mod Refusals
 pub mod Answers
 pub mod Check
 pub mod Functions
+pub mod Names
 pub mod Ins
 pub mod View
 pub mod Assembler

@@ -1,4 +1,5 @@
 pub mod Numerals
 pub mod Pieces
 pub mod Lines
+pub mod Placed
 pub mod Whole

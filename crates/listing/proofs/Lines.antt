@@ -1,13 +1,16 @@
--- The lines of cells, written one after another.
-use mathlib.Core.Path.{_≡_, refl, sym, _∙_, ap}
-use mathlib.Core.List.{List, [], _∷_, _++_, append-assoc, append-nil}
-use Prim.Native.Nat.{ℕ, _+_, _*_, _/_, _%_, _<_}
+-- Bytes as hexadecimal digits, and the lines of cells, written one after another.
+use mathlib.Core.Path.{_≡_, refl, sym, _∙_, ap, ap₂}
+use mathlib.Core.List.{List, [], _∷_, _++_, append-assoc, append-nil, head-eq-of-cons-eq, tail-eq-of-cons-eq}
+use Prim.Native.Nat.{ℕ, _+_, _*_, _/_, _%_, _≤_, _<_}
 use native.Mathlib.Numerals.{add-one}
 use native.Mathlib.Omega.{arith}
+use borrow.Author.Tests.{ltb-true, ltb-false, lt-ltb, le-ltb}
+use lib.Dec.{ltb}
 use lib.ListN.{length, getD, set, take, length-append}
 use lib.Seq.{take-suc, take-all}
 use Rattle.cells.specs.Cells.{Cell, Full, cells, cellAt}
 use Rattle.cells.proofs.Cells.{length-cells, cell-at}
+use Rattle.cells.proofs.Facts.{by-test}
 use Rattle.listing.specs.Text.{hexDigit, hex, cellLine, cellLines, lineFeed}
 use Rattle.listing.specs.Contracts.{TextWritten}
 use Rattle.listing.proofs.Pieces.{written-behind, written-next}
@@ -16,9 +19,40 @@ hex-snoc : (s : List ℕ) (b : ℕ) → hex (s ++ b ∷ []) ≡ (hex s ++ hexDig
 hex-snoc [] b = refl
 hex-snoc (c ∷ s) b = ap (λ (t : List ℕ). hexDigit (c / 16) ∷ hexDigit (c % 16) ∷ t) (hex-snoc s b)
 
-length-hex : (s : List ℕ) → length (hex s) ≡ 2 * length s
+pub length-hex : (s : List ℕ) → length (hex s) ≡ 2 * length s
 length-hex [] = refl
 length-hex (b ∷ s) = omega (arith, length-hex s)
+
+-- ---- bytes are known by their digits
+
+hex-small : (d : ℕ) → d < 10 → hexDigit d ≡ 48 + d
+hex-small d h = rw (lt-ltb d 10 h)
+
+hex-large : (d : ℕ) → 10 ≤ d → hexDigit d ≡ 55 + d
+hex-large d h = rw (le-ltb d 10 h)
+
+same-hex-digit : (m n : ℕ) → hexDigit m ≡ hexDigit n → m ≡ n
+same-hex-digit m n e =
+    by-test (ltb m 10)
+    (λ s.
+    let a = hex-small m (ltb-true m 10 s) in
+    by-test (ltb n 10) (λ t. omega (arith, a, e, hex-small n (ltb-true n 10 t)))
+    (λ t. omega (arith, a, e, hex-large n (ltb-false n 10 t), ltb-true m 10 s, ltb-false n 10 t)))
+    (λ s.
+    let a = hex-large m (ltb-false m 10 s) in
+    by-test (ltb n 10) (λ t. omega (arith, a, e, hex-small n (ltb-true n 10 t), ltb-false m 10 s, ltb-true n 10 t))
+    (λ t. omega (arith, a, e, hex-large n (ltb-false n 10 t))))
+
+pub same-hex : (s t : List ℕ) → hex s ≡ hex t → s ≡ t
+same-hex [] [] e = refl
+same-hex [] (c ∷ t) e = absurd (omega (arith, ap length e))
+same-hex (b ∷ s) [] e = absurd (omega (arith, ap length e))
+same-hex (b ∷ s) (c ∷ t) e =
+    let h = same-hex-digit (b / 16) (c / 16) (head-eq-of-cons-eq e) in
+    let l = same-hex-digit (b % 16) (c % 16) (head-eq-of-cons-eq (tail-eq-of-cons-eq e)) in
+    ap₂ (_∷_) (omega (arith, h, l)) (same-hex s t (tail-eq-of-cons-eq (tail-eq-of-cons-eq e)))
+
+-- ---- lines
 
 pub length-line : (c : Cell) → length c ≡ 16 → length (cellLine c) ≡ 33
 length-line c e = omega (arith, length-append (hex c) (lineFeed ∷ []), length-hex c)

@@ -54,6 +54,13 @@ pub length-decimal : (n : ℕ) → length (decimal n) ≤ 20
 unfolding decimal
 length-decimal n = length-numeral 20 n
 
+-- a number below 10 ^ k has no more than k digits
+pub length-few : (k n : ℕ) → n < 10 ^ suc k → n < 10 ^ 20 → length (decimal n) ≤ suc k
+length-few zero n h l = omega (arith, length-one n (omega (arith, h)))
+length-few (suc k) n h l =
+    by-test (ltb n 10) (λ t. omega (arith, length-one n (ltb-true n 10 t)))
+    (λ t. omega (arith, length-more n (ltb-false n 10 t) l, length-few k (n / 10) (tenth (suc k) n h) (omega arith)))
+
 -- ---- the value
 
 value-snoc : (m : ℕ) (s : List ℕ) (d : ℕ) → valueFrom m (s ++ d ∷ []) ≡ 10 * valueFrom m s + (d - 48)

@@ -44,6 +44,11 @@ module _ {text before after : List ℕ} {at : ℕ} (w : TextWritten text before 
         bytes = v .bytes ∙ rw (t, w .bytes) (ap (λ (s : List ℕ). (text ++ piece) ++ s) (over-drop text before (length (text ++ piece)) l));
       }
 
+-- two pieces one behind the other
+pub written-both : (start p q : List ℕ) {before after last : List ℕ} {at r : ℕ} → TextWritten (start ++ p) before after at → TextWritten (take at after ++ q) after last r
+    → TextWritten (start ++ (p ++ q)) before last r
+written-both start p q w v = rw (append-assoc start p q) at (written-next w q v)
+
 -- one byte more, behind a piece
 pub written-behind : (start piece : List ℕ) (x : ℕ) {before after : List ℕ} {at : ℕ} → TextWritten (start ++ piece) before after at → at < length before
     → TextWritten (start ++ (piece ++ x ∷ [])) before (set after at x) (at + 1)

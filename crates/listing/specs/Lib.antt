@@ -1,4 +1,5 @@
 pub mod Decimal
 pub mod Text
+pub mod Places
 pub mod Contracts
 pub mod Cases

@@ -5,7 +5,8 @@ ghost use Prim.Native.Nat.{_+_, _*_, _/_, _≤_, _<_};
 ghost use lib.ListN.{length, take};
 ghost use Rattle.cells.specs.Cells.{cells as «cellsOf», over};
 ghost use Rattle.listing.specs.Decimal.{decimal};
-ghost use Rattle.listing.specs.Text.{hexDigit, cellLine, cellLines, field, rewritesLine, rewrittenText, refusedText, goodText, checkedText};
+ghost use Rattle.listing.specs.Places.{blanks, fillLeft, digits};
+ghost use Rattle.listing.specs.Text.{hexDigit, hex, cellLine, cellLines, field, rewritesLine, rewrittenText, refusedText, goodText, checkedText};
 ghost use Rattle.listing.specs.Contracts.{Listing, TextWritten};
 use cells::read::CELL;
 use cells::read::wide;
@@ -109,19 +110,6 @@ fn put_field(n: usize, end: u8, text: &mut [u8], at: usize) -> usize
     k + 1
 }
 
-fn put_decimal(n: usize, text: &mut [u8], at: usize) -> usize
-    requires { ⌜ at + length (decimal n) ≤ length (now text) ⌝ }
-    ensures { λ r. ⌜ TextWritten (take at (now (text .entry)) ++ decimal n) (now (text .entry)) (now (text .exit)) r ⌝ }
-{
-    if n < 10 {
-        text[at] = b'0' + n as u8;
-        return at + 1;
-    }
-    let k = put_decimal(n / 10, text, at);
-    text[k] = b'0' + (n % 10) as u8;
-    k + 1
-}
-
 // A line for each cell, from the start on.
 fn put_cells(cells: &[u8], text: &mut [u8]) -> usize
     requires { ⌜ 33 * (length (now cells) / 16) ≤ length (now text) ⌝ }
@@ -143,20 +131,88 @@ fn put_line(cell: &[u8], text: &mut [u8], at: usize) -> usize
     requires { ⌜ (length (now cell) ≡ 16) × (at + 33 ≤ length (now text)) ⌝ }
     ensures { λ r. ⌜ TextWritten (take at (now (text .entry)) ++ cellLine (now (cell .entry))) (now (text .entry)) (now (text .exit)) r ⌝ }
 {
+    let k = put_hex(cell, text, at);
+    text[k] = b'\n';
+    k + 1
+}
+
+// The parts of every text.
+
+pub fn put_decimal(n: usize, text: &mut [u8], at: usize) -> usize
+    requires { ⌜ at + length (decimal n) ≤ length (now text) ⌝ }
+    ensures { λ r. ⌜ TextWritten (take at (now (text .entry)) ++ decimal n) (now (text .entry)) (now (text .exit)) r ⌝ }
+{
+    if n < 10 {
+        text[at] = b'0' + n as u8;
+        return at + 1;
+    }
+    let k = put_decimal(n / 10, text, at);
+    text[k] = b'0' + (n % 10) as u8;
+    k + 1
+}
+
+// A number in so many places, behind blanks.
+pub fn put_aligned(places: usize, n: usize, text: &mut [u8], at: usize) -> usize
+    requires { ⌜ (length (decimal n) ≤ places) × (at + places ≤ length (now text)) ⌝ }
+    ensures { λ r. ⌜ TextWritten (take at (now (text .entry)) ++ fillLeft places (decimal n)) (now (text .entry)) (now (text .exit)) r ⌝ }
+{
+    if n < 10 {
+        let b = put_blanks(places - 1, text, at);
+        text[b] = b'0' + n as u8;
+        return b + 1;
+    }
+    let k = put_aligned(places - 1, n / 10, text, at);
+    text[k] = b'0' + (n % 10) as u8;
+    k + 1
+}
+
+// The last digits of a number, so many, with zeros in front where it has fewer.
+pub fn put_digits(places: usize, n: usize, text: &mut [u8], at: usize) -> usize
+    requires { ⌜ at + places ≤ length (now text) ⌝ }
+    ensures { λ r. ⌜ TextWritten (take at (now (text .entry)) ++ digits places n) (now (text .entry)) (now (text .exit)) r ⌝ }
+{
+    if places == 0 {
+        return at;
+    }
+    let k = put_digits(places - 1, n / 10, text, at);
+    text[k] = b'0' + (n % 10) as u8;
+    k + 1
+}
+
+// Two digits a byte.
+pub fn put_hex(bytes: &[u8], text: &mut [u8], at: usize) -> usize
+    requires { ⌜ at + 2 * length (now bytes) ≤ length (now text) ⌝ }
+    ensures { λ r. ⌜ TextWritten (take at (now (text .entry)) ++ hex (now (bytes .entry))) (now (text .entry)) (now (text .exit)) r ⌝ }
+{
     let mut k = at;
     let mut i: usize = 0;
-    while i < CELL {
-        let b = wide(cell[i]);
+    while i < bytes.len() {
+        let b = wide(bytes[i]);
         text[k] = hex_digit(b / 16);
         text[k + 1] = hex_digit(b % 16);
         k += 2;
         i += 1;
     }
-    text[k] = b'\n';
-    k + 1
+    k
 }
 
-fn append(piece: &[u8], text: &mut [u8], at: usize) -> usize
+// So many blanks.
+pub fn put_blanks(count: usize, text: &mut [u8], at: usize) -> usize
+    requires { ⌜ at + count ≤ length (now text) ⌝ }
+    ensures { λ r. ⌜ TextWritten (take at (now (text .entry)) ++ blanks count) (now (text .entry)) (now (text .exit)) r ⌝ }
+{
+    let mut k = at;
+    let mut i: usize = 0;
+    while i < count {
+        text[k] = b' ';
+        k += 1;
+        i += 1;
+    }
+    k
+}
+
+// A piece as it is.
+pub fn append(piece: &[u8], text: &mut [u8], at: usize) -> usize
     requires { ⌜ at + length (now piece) ≤ length (now text) ⌝ }
     ensures { λ r. ⌜ TextWritten (take at (now (text .entry)) ++ now (piece .entry)) (now (text .entry)) (now (text .exit)) r ⌝ }
 {

@@ -27,7 +27,7 @@ use Rattle.passes.proofs.Checked.{check-long}
 use Rattle.matchdesk.specs.Program.{written, programTexts}
 use Rattle.matchdesk.specs.Contracts.{Fits}
 use Rattle.matchdesk.specs.declared.Job.{Job}
-use Rattle.matchdesk.specs.declared.Job.the-variants.{Rewrite as RewriteJob, Bytes, Check}
+use Rattle.matchdesk.specs.declared.Job.the-variants.{Rewrite as RewriteJob, Bytes, Check, Pages}
 
 written-only : (a : Checked) (m count n : ℕ) (report : OptReport) → answerAs a m count ≡ Written n report → (a ≡ Good) × (m ≡ n)
 written-only Good m count n report e = (refl, cc)
@@ -35,7 +35,7 @@ written-only (RefusedBy x) m count n report e = let z : _≡_ {A = ℕ} 0 1 = cc
 
 module _ (k : RuleSet) (image before after : List ℕ) where
   -- the answer lies within the output, and its text within a buffer
-  pub reply-fits : (r : Rewrite) → RewriteDone k image before after r → length after ≡ length before → (output : List ℕ) → 135198 ≤ length output
+  pub reply-fits : (r : Rewrite) → RewriteDone k image before after r → length after ≡ length before → (output : List ℕ) → 242382 ≤ length output
       → Fits r after output
   reply-fits (Written n report) w l output h =
       let g = w .done .accepted .0 refl in
@@ -72,3 +72,4 @@ unfolding programTexts
 program-long (RewriteJob rules) s t h k = rw (answer-long (Both rules) s h, answer-long (Both rules) t k)
 program-long Bytes s t h k = rw (answer-long (Both Default) s h, answer-long (Both Default) t k)
 program-long Check s t h k = rw (site-long s h, site-long t k)
+program-long Pages s t h k = rw (site-long s h, site-long t k)

@@ -55,12 +55,12 @@ module _ {text before after : List ℕ} {r : ℕ} (w : TextWritten text before a
   only-error = record { on-output = written-none other; on-error = w }
 
 -- the longest texts
-pub most-rewritten : (n : ℕ) (out : List ℕ) → n ≤ length out → n ≤ maxImage → (count : ℕ) → length (rewrittenText (cells (take n out)) count) ≤ 135198
+pub most-rewritten : (n : ℕ) (out : List ℕ) → n ≤ length out → n ≤ maxImage → (count : ℕ) → length (rewrittenText (cells (take n out)) count) ≤ 242382
 most-rewritten n out l m count =
     omega (arith, length-take-le n out l, length-rewritten (take n out) count, length-rewrites count)
 
 -- the bytes themselves lie within a buffer that has room for their text
-pub bytes-fit : (n : ℕ) (out output : List ℕ) → n ≤ length out → n ≤ maxImage → 135198 ≤ length output → length (take n out) ≤ length output
+pub bytes-fit : (n : ℕ) (out output : List ℕ) → n ≤ length out → n ≤ maxImage → 242382 ≤ length output → length (take n out) ≤ length output
 bytes-fit n out output l m h = omega (arith, length-take-le n out l)
 
 pub most-checked : (r : Checked) → length (checkedText r) ≤ 71

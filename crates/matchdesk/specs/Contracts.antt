@@ -18,8 +18,8 @@ lengthOf TooShort = 0
 
 pub record Room (work output error : List ℕ) : Type 0 where
   pub for-work : length work ≡ maxImage
-  -- 4,096 lines of cells, and the line of the count
-  pub for-output : 135198 ≤ length output
+  -- the longest pages, which are longer than 4,096 lines of cells and the line of the count
+  pub for-output : 242382 ≤ length output
   -- the line of a refusal
   pub for-error : 71 ≤ length error
 
@@ -27,7 +27,7 @@ pub record Room (work output error : List ℕ) : Type 0 where
 pub record Fits (reply : Rewrite) (work output : List ℕ) : Type 0 where
   pub within : lengthWritten reply ≤ length work
   pub most : lengthWritten reply ≤ maxImage
-  pub room : 135198 ≤ length output
+  pub room : 242382 ≤ length output
 
 -- the texts stand over the start of the two buffers, each with its end
 pub record Says (t : Texts) (output output' error error' : List ℕ) (r : Said) : Type 0 where

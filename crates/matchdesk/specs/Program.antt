@@ -1,5 +1,5 @@
 -- Promise: what the program is asked for, and what it writes to standard output and to standard error for each job. The text of the rewrite's answer is
--- document 01's ('Cells on either edge', the last paragraph); of the fuller rewrite (document 02, W2) it is the same.
+-- document 01's ('Cells on either edge', the last paragraph); of the fuller rewrite (document 02, W2) it is the same. The pages are document 02's (W1).
 use mathlib.Core.List.{List, [], _∷_}
 use mathlib.Core.Bool.{Bool, true, false, cond, _&&_}
 use Prim.Native.Nat.{ℕ}
@@ -8,8 +8,11 @@ use lib.ListN.{take}
 use Rattle.cells.specs.Cells.{cells}
 use Rattle.cells.specs.Check.{maxImage}
 use Rattle.crystalfold.specs.declared.rules.RuleSet.the-variants.{Default, Fuller}
+use Rattle.cells.specs.declared.refusal.Checked.{Checked}
+use Rattle.cells.specs.declared.refusal.Checked.the-variants.{Good, Refused as RefusedBy}
 use Rattle.image.specs.SiteCheck.{siteAnswer}
 use Rattle.listing.specs.Text.{rewrittenText, refusalText, checkedText}
+use Rattle.pages.specs.Pages.{pagesText}
 use Rattle.passes.specs.Contracts.{lengthWritten}
 use Rattle.passes.specs.Passes.{passAnswer, passBytes, passOutput}
 use Rattle.passes.specs.declared.Pass.the-variants.{Both}
@@ -18,7 +21,7 @@ use Rattle.passes.specs.declared.Rewrite.the-variants.{Written, Refused}
 use Rattle.matchdesk.specs.declared.Asked.{Asked}
 use Rattle.matchdesk.specs.declared.Asked.the-variants.{For, Unknown}
 use Rattle.matchdesk.specs.declared.Job.{Job}
-use Rattle.matchdesk.specs.declared.Job.the-variants.{Rewrite as RewriteJob, Bytes, Check}
+use Rattle.matchdesk.specs.declared.Job.the-variants.{Rewrite as RewriteJob, Bytes, Check, Pages}
 
 -- ---- the words
 
@@ -28,7 +31,7 @@ sameBytes [] (y ∷ ys) = false
 sameBytes (x ∷ xs) [] = false
 sameBytes (x ∷ xs) (y ∷ ys) = eqb x y && sameBytes xs ys
 
--- `rewrite`, `fuller`, `bytes` and `check`
+-- `rewrite`, `fuller`, `bytes`, `check` and `pages`
 abbrev pub rewriteWord : List ℕ
 rewriteWord = 114 ∷ 101 ∷ 119 ∷ 114 ∷ 105 ∷ 116 ∷ 101 ∷ []
 
@@ -41,12 +44,16 @@ bytesWord = 98 ∷ 121 ∷ 116 ∷ 101 ∷ 115 ∷ []
 abbrev pub checkWord : List ℕ
 checkWord = 99 ∷ 104 ∷ 101 ∷ 99 ∷ 107 ∷ []
 
+abbrev pub pagesWord : List ℕ
+pagesWord = 112 ∷ 97 ∷ 103 ∷ 101 ∷ 115 ∷ []
+
 unfoldable pub askedFor : List ℕ → Asked
 askedFor word =
     cond (sameBytes word rewriteWord) (For (RewriteJob Default))
     (cond (sameBytes word fullerWord) (For (RewriteJob Fuller))
     (cond (sameBytes word bytesWord) (For Bytes)
-    (cond (sameBytes word checkWord) (For Check) Unknown)))
+    (cond (sameBytes word checkWord) (For Check)
+    (cond (sameBytes word pagesWord) (For Pages) Unknown))))
 
 -- ---- the texts
 
@@ -71,6 +78,11 @@ abbrev pub answerBytes : Rewrite → List ℕ → Texts
 answerBytes (Written n report) new = onOutput new
 answerBytes (Refused x) new = onError (refusalText x)
 
+-- the pages of an accepted image; or as of a refused one. There is always room for them
+abbrev pub laidText : Checked → List ℕ → List ℕ
+laidText Good pages = pages
+laidText (RefusedBy x) pages = refusalText x
+
 -- the bytes that a rewrite wrote, by its answer and what its output then holds
 abbrev pub written : Rewrite → List ℕ → List ℕ
 written r out = take (lengthWritten r) out
@@ -80,9 +92,11 @@ unfoldable pub programTexts : Job → List ℕ → Texts
 programTexts (RewriteJob k) image = onOutput (answerText (passAnswer (Both k) image maxImage) (passBytes (Both k) image))
 programTexts Bytes image = answerBytes (passAnswer (Both Default) image maxImage) (passBytes (Both Default) image)
 programTexts Check image = onOutput (checkedText (siteAnswer image))
+programTexts Pages image = onOutput (laidText (siteAnswer image) (pagesText image))
 
 -- what a job leaves in the output that it lends to a rewrite
 unfoldable pub workAfter : Job → List ℕ → List ℕ → List ℕ
 workAfter (RewriteJob k) image before = passOutput (Both k) image before
 workAfter Bytes image before = passOutput (Both Default) image before
 workAfter Check image before = before
+workAfter Pages image before = before

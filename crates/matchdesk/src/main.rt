@@ -6,25 +6,28 @@ ghost use Prim.Native.Nat.{_≤_};
 ghost use lib.ListN.{length, replicate};
 ghost use Rattle.cells.specs.Check.{maxImage};
 ghost use Rattle.io.specs.Counts.{Counts};
+ghost use Rattle.image.specs.SiteCheck.{siteAnswer};
 ghost use Rattle.listing.specs.Contracts.{TextWritten};
 ghost use Rattle.listing.specs.Text.{checkedText};
-ghost use Rattle.matchdesk.specs.Program.{askedFor, written, answerText, answerBytes, programTexts, workAfter};
+ghost use Rattle.pages.specs.Pages.{pagesText};
+ghost use Rattle.matchdesk.specs.Program.{askedFor, written, answerText, answerBytes, laidText, programTexts, workAfter};
 ghost use Rattle.matchdesk.specs.Contracts.{lengthOf, Room, Fits, Says};
 use cells::check::MAX_IMAGE;
-use cells::read::CELL;
 use cells::refusal::Checked;
 use crystalfold::rules::RuleSet;
 use input::Input;
 use libc::STDERR_FILENO;
 use libc::STDOUT_FILENO;
 use listing::Listed;
+use pages::Paged;
 use passes::Rewrite;
 
-// What the program can do: the text of a rewrite's answer, by a rule set; the rewritten image itself; the site check.
+// What the program can do: the text of a rewrite's answer, by a rule set; the rewritten image itself; the site check; the image's pages.
 enum Job {
     Rewrite(RuleSet),
     Bytes,
     Check,
+    Pages,
 }
 
 // What an argument asks for.
@@ -42,8 +45,8 @@ struct Said {
 // Bytes for the input: the longest image, and what one read finds past it.
 const INPUT: usize = MAX_IMAGE + 4096;
 
-// Bytes of the longest text: 4,096 lines of 33, and the line of the count.
-const OUTPUT: usize = 33 * (MAX_IMAGE / CELL) + 30;
+// Bytes of the longest text: the longest pages, 4,179 lines of 58.
+const OUTPUT: usize = 58 * 4179;
 
 // Bytes of the longest line of a refusal.
 const ERROR: usize = 71;
@@ -53,7 +56,7 @@ fn main() {
     let Asked::For(job) = asked else {
         io::write_all(
             STDERR_FILENO,
-            b"usage: matchdesk [rewrite | fuller | bytes | check] < image\n",
+            b"usage: matchdesk [rewrite | fuller | bytes | check | pages] < image\n",
         );
         return;
     };
@@ -104,6 +107,9 @@ fn job_of(word: &[u8]) -> Asked
     if check::same(word, b"check") {
         return Asked::For(Job::Check);
     }
+    if check::same(word, b"pages") {
+        return Asked::For(Job::Pages);
+    }
     Asked::Unknown
 }
 
@@ -128,6 +134,10 @@ fn run(job: Job, image: &[u8], work: &mut [u8], output: &mut [u8], error: &mut [
         }
         Job::Check => Said {
             output: check_line(image::site_check(image), output),
+            error: 0,
+        },
+        Job::Pages => Said {
+            output: lay_out(image, output),
             error: 0,
         },
     }
@@ -166,6 +176,20 @@ fn answer_bytes(reply: Rewrite, work: &[u8], output: &mut [u8], error: &mut [u8]
     }
 }
 
+// The pages of an image, or the line of its refusal.
+fn lay_out(image: &[u8], output: &mut [u8]) -> usize
+    requires { ⌜ 242382 ≤ length (now output) ⌝ }
+    ensures { λ r. ⌜ Counts r (now (output .exit)) ⌝ }
+    ensures { λ r. ⌜ TextWritten (laidText (siteAnswer (now (image .entry))) (pagesText (now (image .entry)))) (now (output .entry)) (now (output .exit)) r ⌝ }
+{
+    let paged = pages::pages(image, output);
+    match paged {
+        Paged::Laid(n) => n,
+        Paged::Refused(refusal) => check_line(Checked::Refused(refusal), output),
+        Paged::TooShort => 0,
+    }
+}
+
 // The line of a check's answer.
 fn check_line(checked: Checked, text: &mut [u8]) -> usize
     requires { ⌜ 71 ≤ length (now text) ⌝ }
@@ -197,7 +221,7 @@ fn work_buffer() -> [u8; MAX_IMAGE]
 }
 
 fn output_buffer() -> [u8; OUTPUT]
-    ensures { λ r. ⌜ r ≡ replicate 135198 0 ⌝ }
+    ensures { λ r. ⌜ r ≡ replicate 242382 0 ⌝ }
 {
     [0; OUTPUT]
 }

@@ -1,71 +1,37 @@
 -- `listing::put_line` meets its contract.
-use mathlib.Core.Path.{_≡_, refl, _∙_, ap}
-use mathlib.Core.List.{_++_, append-nil}
-use Prim.Native.Nat.{ℕ, _+_, _-_, _*_, _/_, _%_, _≤_}
 use native.Mathlib.Omega.{arith}
 use denote.Ref.{now}
-use lib.ListN.{length, getD, take, length-set}
-use lib.Seq.{take-all}
-use Rattle.listing.specs.Text.{hex, hexDigit}
-use Rattle.listing.specs.Contracts.{TextWritten}
-use Rattle.listing.proofs.Pieces.{written-start, written-behind}
-use Rattle.listing.proofs.Lines.{written-hex}
+use lib.ListN.{take}
+use Rattle.listing.specs.Text.{lineFeed, hex}
+use Rattle.listing.proofs.Lines.{length-hex}
+use Rattle.listing.proofs.Pieces.{end-at, written-behind}
 use borrow.Author.Needs.{needs}
 use Rattle.listing.proofs.put_line.Statement.{statement}
 use Rattle.listing.proofs.put_line.Tie as tie
 
-abbrev Inv-loop : tie.InvT-loop
-Inv-loop cell text₀ at k₀ i₀ text k i = (i ≤ 16) × (k ≡ at + 2 * i) × (length text ≡ length text₀) × TextWritten (take at text₀ ++ hex (take i cell)) text₀ text k
+slice-write-text : tie.Need-slice-write-text
+slice-write-text c =
+    let s = c .before .before .before .before .before .before in
+    let w = c .before .before .put-hex in
+    let e = end-at (now (s .args .text)) (hex (now (s .args .cell))) (s .args .at) (w .result) (omega arith) (w .ensures .end) in
+    let l = length-hex (now (s .args .cell)) in
+    omega (arith, e, l, w .kept)
 
-abbrev μ-loop : tie.MeasureT-loop
-μ-loop cell text₀ at k₀ i₀ text k i = 16 - i
+add-result : tie.Need-add-result
+add-result c =
+    let s = c .before .before .before .before .before .before in
+    let w = c .before .before .put-hex in
+    let e = end-at (now (s .args .text)) (hex (now (s .args .cell))) (s .args .at) (w .result) (omega arith) (w .ensures .end) in
+    let l = length-hex (now (s .args .cell)) in
+    record { fits = omega (arith, e, l) }
 
-loop-holds : tie.Need-loop-holds Inv-loop μ-loop
-loop-holds c =
-    let a = c .before .before .args in
-    (omega arith, omega arith, refl, rw append-nil (written-start (now (a .text)) (a .at) (omega arith)))
-
-loop-again : tie.Need-loop-again Inv-loop μ-loop
-loop-again c =
-    let a = c .before .before .before .before .before .before .before .before .args in
-    let l = c .before .before .before .before .before .loop in
-    let b = getD (now (a .cell)) (l .i) 0 in
-    let w = c .before .before .wide .ensures .0 in
-    let x : c .before .hex-digit .result ≡ hexDigit (b / 16) = c .before .hex-digit .ensures ∙ ap (λ (n : ℕ). hexDigit (n / 16)) w in
-    let y : c .hex-digit2 .result ≡ hexDigit (b % 16) = c .hex-digit2 .ensures ∙ ap (λ (n : ℕ). hexDigit (n % 16)) w in
-    let f : l .k + 1 + 1 ≡ l .k + 2 = omega arith in (
-      omega arith,
-      omega arith,
-      simp length-set (l .inv .2),
-      rw (x, y, ← f) (written-hex (take (a .at) (now (a .text))) (now (a .cell)) (l .i) (l .inv .3) (omega arith) (omega arith)),
-    )
-
-returns : tie.Need-returns Inv-loop μ-loop
+returns : tie.Need-returns
 returns c =
-    let a = c .before .before .before .before .args in
-    let l = c .before .loop in
-    let e : take (l .i) (now (a .cell)) ≡ now (a .cell) = take-all (l .i) (now (a .cell)) (omega arith) in
-    rw e at (written-behind (take (a .at) (now (a .text))) (hex (take (l .i) (now (a .cell)))) 10 (l .inv .3) (omega arith))
+    let s = c .before .before .before .before .before .before in
+    let w = c .before .before .put-hex in
+    let e = end-at (now (s .args .text)) (hex (now (s .args .cell))) (s .args .at) (w .result) (omega arith) (w .ensures .end) in
+    let l = length-hex (now (s .args .cell)) in
+    written-behind (take (s .args .at) (now (s .args .text))) (hex (now (s .args .cell))) lineFeed (w .ensures) (omega (arith, e, l))
 
 pub put-line-spec : {M : Type 1} → statement M
-put-line-spec =
-    tie.close
-    (tie.spec
-    Inv-loop
-    μ-loop
-    loop-holds
-    (λ c. search needs)
-    (λ c κs. search needs)
-    (λ c κs. search needs)
-    (λ c. search needs)
-    (λ c κs. search needs)
-    (λ c. search needs)
-    (λ c. simp length-set (omega arith))
-    (λ c. search needs)
-    (λ c. search needs)
-    (λ c. search needs)
-    loop-again
-    (λ c. search needs)
-    (λ c. search needs)
-    (λ c. search needs)
-    returns)
+put-line-spec = tie.close (tie.spec (λ c κs. search needs) slice-write-text add-result (λ c. search needs) returns)

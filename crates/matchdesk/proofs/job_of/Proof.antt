@@ -4,7 +4,7 @@ use mathlib.Core.Bool.{false}
 use mathlib.Core.List.{List}
 use Prim.Native.Nat.{ℕ}
 use denote.Ref.{now}
-use Rattle.matchdesk.specs.Program.{sameBytes, rewriteWord, fullerWord, bytesWord, checkWord, askedFor}
+use Rattle.matchdesk.specs.Program.{sameBytes, rewriteWord, fullerWord, bytesWord, checkWord, pagesWord, askedFor}
 use Rattle.matchdesk.proofs.Words.{same-test}
 use borrow.Author.Needs.{needs}
 use Rattle.matchdesk.proofs.job_of.Statement.{statement}
@@ -21,6 +21,9 @@ word₂ c = word₁ (c .before .before .before)
 abbrev word₃ : tie.Else3 → List ℕ
 word₃ c = word₂ (c .before .before .before)
 
+abbrev word₄ : tie.Else4 → List ℕ
+word₄ c = word₃ (c .before .before .before)
+
 not-rewrite : (c : tie.Else1) → sameBytes (word₁ c) rewriteWord ≡ false
 not-rewrite c = same-test _ _ rewriteWord (c .before .same .ensures) ∙ c .if1 .left
 
@@ -29,6 +32,9 @@ not-fuller c = same-test _ _ fullerWord (c .before .same2 .ensures) ∙ c .if2 .
 
 not-bytes : (c : tie.Else3) → sameBytes (word₃ c) bytesWord ≡ false
 not-bytes c = same-test _ _ bytesWord (c .before .same3 .ensures) ∙ c .if3 .left
+
+not-check : (c : tie.Else4) → sameBytes (word₄ c) checkWord ≡ false
+not-check c = same-test _ _ checkWord (c .before .same4 .ensures) ∙ c .if4 .left
 
 -- ---- the answers
 
@@ -54,12 +60,21 @@ is-check c =
     let d = e .before .before .before in
     rw (not-rewrite (d .before .before .before), not-fuller d, not-bytes e, same-test _ _ checkWord (c .before .same4 .ensures) ∙ c .if4 .taken)
 
-is-none : tie.Need-returns-5
+is-pages : tie.Need-returns-5
+unfolding askedFor
+is-pages c =
+    let f = c .before .before .before in
+    let e = f .before .before .before in
+    let d = e .before .before .before in
+    rw (not-rewrite (d .before .before .before), not-fuller d, not-bytes e, not-check f, same-test _ _ pagesWord (c .before .same5 .ensures) ∙ c .if5 .taken)
+
+is-none : tie.Need-returns-6
 unfolding askedFor
 is-none c =
-    let e = c .before .before .before in
+    let f = c .before .before .before in
+    let e = f .before .before .before in
     let d = e .before .before .before in
-    rw (not-rewrite (d .before .before .before), not-fuller d, not-bytes e, same-test _ _ checkWord (c .before .same4 .ensures) ∙ c .if4 .left)
+    rw (not-rewrite (d .before .before .before), not-fuller d, not-bytes e, not-check f, same-test _ _ pagesWord (c .before .same5 .ensures) ∙ c .if5 .left)
 
 pub job-of-spec : {M : Type 1} → statement M
 job-of-spec =
@@ -77,4 +92,7 @@ job-of-spec =
     (λ c. search needs)
     (λ c κs. search needs)
     is-check
+    (λ c. search needs)
+    (λ c κs. search needs)
+    is-pages
     is-none)

@@ -64,6 +64,16 @@ returns-3 c =
       ),
     )
 
+returns-4 : tie.Need-returns-4
+unfolding programTexts workAfter
+returns-4 c =
+    let s = c .before .before .before .before .before .before .before .before .before .before in
+    let e = c .before .before .before .before .enum-told3 .given .1 in
+    let v = c .before .before .lay-out .ensures in (
+      (v .0, none-counted (now (s .args .error))),
+      (rw e (only-output (v .1) (now (s .args .error))), rw e refl),
+    )
+
 pub run-spec : {M : Type 1} → statement M
 run-spec =
     tie.close
@@ -78,6 +88,8 @@ run-spec =
     (λ c κs. search needs)
     (λ c κs. search needs)
     (λ c. search needs)
+    (λ c κs. search needs)
+    (λ c. search needs)
     (λ c. search needs)
     returns
     (λ c. search needs)
@@ -85,4 +97,6 @@ run-spec =
     (λ c. search needs)
     returns-2
     (λ c. search needs)
-    returns-3)
+    returns-3
+    (λ c. search needs)
+    returns-4)

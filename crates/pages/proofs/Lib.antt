@@ -1,0 +1,6 @@
+pub mod NameTable
+pub mod Lines
+pub mod Laying
+pub mod Done
+pub mod LinesApart
+pub mod Apart

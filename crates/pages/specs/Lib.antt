@@ -1,0 +1,4 @@
+pub mod Pages
+pub mod Contracts
+pub mod Apart
+pub mod Steps
