@@ -1,5 +1,6 @@
 /*
- * The MatchDesk rewrite: image checks, cleanup, CrystalFold and the two whole rewrites of cell images (docs/FORMAT.md says what an image is).
+ * The MatchDesk rewrite: image checks, cleanup, CrystalFold and the two whole rewrites of cell images (docs/FORMAT.md says what an image is), and
+ * the pages of an image.
  *
  * Library: target/staticlib/libcapi.a for Linux on x86-64, made by `rt staticlib capi`. Every function is proved to meet its contract
  * (crates/capi/specs/Contracts.antt), for images of all bytes and lengths and outputs of all lengths.
@@ -26,17 +27,20 @@
 #endif
 
 /* The version of this interface: it rises when a function is added or an answer changes. */
-#define MATCHDESK_VERSION 4
+#define MATCHDESK_VERSION 5
 
 /* The bytes of a cell. */
 #define MATCHDESK_CELL 16
-/* The longest image, in bytes. An output as long as the image always suffices. */
+/* The longest image, in bytes. For a rewrite an output as long as the image always suffices. */
 #define MATCHDESK_MAX_IMAGE 65536
 /* The most instruction cells and the most event cells of a function. */
 #define MATCHDESK_MAX_INSTRUCTIONS 2048
 #define MATCHDESK_MAX_EVENTS 1024
 /* Registers are 0 to MATCHDESK_REGISTERS - 1. */
 #define MATCHDESK_REGISTERS 1024
+/* The bytes of a page's line, with its line feed, and of the longest pages: 4,179 lines. */
+#define MATCHDESK_PAGE_LINE 58
+#define MATCHDESK_MAX_PAGES 242382
 
 /*
  * A call takes no more stack than this, in bytes, whatever the image. Measured, not proved (tests/cinterface/stack.c paints a stack and looks
@@ -115,6 +119,29 @@ size_t matchdesk_rewrite(const unsigned char *image, size_t image_length, unsign
  * (7FF8000000000000). matchdesk_crystalfold and matchdesk_rewrite leave these as they are. It refuses as the default one.
  */
 size_t matchdesk_rewrite_fuller(const unsigned char *image, size_t image_length, unsigned char *out, size_t out_length, size_t *first, size_t *second);
+
+/*
+ * The pages of an image, for people to read: lines of 57 bytes and a line feed. Each function begins a page:
+ *
+ *   function 00007 page 001
+ *       0  LoadI32             010005000000000000000000000000
+ *       1  AddI32              020001000100000000000000000000
+ *
+ * A heading (the function's name in five digits, the page in three, blanks), then at most 49 cells, instructions before events; a new page of the
+ * same function begins only where a cell follows the 49th. A cell's line has its position in the function, from 0, in five places with blanks in
+ * front; the command's or the event kind's name in 18 places; the cell's last 15 bytes in hexadecimal. The empty image has no line. No two
+ * accepted images have the same pages.
+ *
+ * Returns 0 on success, and else the refusal's number: as the site check; then
+ *
+ *   30  the output is shorter than the pages; MATCHDESK_MAX_PAGES bytes always suffice
+ *
+ *              *first                         *second                             out
+ *   success    length written, in bytes       0                                   the pages up to that length, behind it
+ *                                                                                 every byte as it was
+ *   refusal    position, as above; 0 for 30   detail, as above; 0 for 30          every byte as it was
+ */
+size_t matchdesk_pages(const unsigned char *image, size_t image_length, unsigned char *out, size_t out_length, size_t *first, size_t *second);
 
 /*
  * The floating-point environment.

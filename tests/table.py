@@ -1,15 +1,15 @@
 #!/usr/bin/env python3
-"""Holds the table of commands, crates/cells/specs/Table.antt, against the text of the Rust.
+"""Holds the table of commands, crates/cells/specs/Table.antt, and the names beside it, Names.antt, against the text of the Rust.
 
-    python3 tests/table.py [CRYSTALFOLD_RS [TABLE_ANTT]]          from anywhere
+    python3 tests/table.py [CRYSTALFOLD_RS [TABLE_ANTT [NAMES_ANTT]]]          from anywhere
     python3 tests/table.py --help
 
 CRYSTALFOLD_RS is the original's crystalfold.rs; without it the file is looked for in the folder that SM_IR_PASSES names (absolute, or from the
 root of the repository), and else in ../shared/docs/src/crates/sm-ir/src/passes.
 
 Commands are numbered in the order of `is_crystalfold_barrier`, its barriers first; the operands of each are those of its arm in
-`fold_constants_and_identities`, and the kind of each follows from its name by the widths of document 01. Says 'ok', or the
-first difference. The exit status is 0 if there is none, 1 if there is one, and 2 if a file is missing.
+`fold_constants_and_identities`, and the kind of each follows from its name by the widths of document 01. A command's name is that of its
+variant; the kinds of events are those that the mod.rs beside that file names, in the order of document 01. Says 'ok', or the first difference. The exit status is 0 if there is none, 1 if there is one, and 2 if a file is missing.
 """
 import os
 import pathlib
@@ -19,6 +19,9 @@ import sys
 ROOT = pathlib.Path(__file__).resolve().parent.parent
 RUST = ROOT / os.environ.get("SM_IR_PASSES", "../shared/docs/src/crates/sm-ir/src/passes") / "crystalfold.rs"
 TABLE = ROOT / "crates/cells/specs/Table.antt"
+NAMES = ROOT / "crates/cells/specs/Names.antt"
+# document 01, 'The cell image': kind 0, kind 1
+KINDS = ["Borrow", "Write"]
 
 REGISTERS = {"dst", "src", "lhs", "rhs", "cond"}
 SITES = {"activation_site", "write_site"}
@@ -107,19 +110,41 @@ def difference(rust, table):
     return None
 
 
+def names(text, name):
+    """The rows of a list of names: number and name, in order."""
+    body = text[text.index(name + " ="):]
+    return [(int(m[1], 16), m[0]) for m in re.findall(r'"(\w*)" ∷\s*-- ([0-9A-F]{2})', body[:body.index("    []\n")])]
+
+
+def difference_of_names(rust, kinds, table):
+    """A difference of the names, if there is one."""
+    want = list(enumerate([""] + sum(commands(rust), [])))
+    for row, have in zip(want, names(table, "commandNames")):
+        if row != have:
+            return f"the Rust text has the command {row}, the names {have}"
+    if len(names(table, "commandNames")) != len(want):
+        return f"{len(names(table, 'commandNames'))} names of commands"
+    if sorted(set(re.findall(r"OwnershipPathEventKind::(\w+)", kinds))) != sorted(KINDS):
+        return "the Rust text has other kinds of events"
+    if names(table, "eventNames") != list(enumerate(KINDS)):
+        return f"the kinds of events are {names(table, 'eventNames')}"
+    return None
+
+
 def main():
     words = sys.argv[1:]
-    if "--help" in words or len(words) > 2:
+    if "--help" in words or len(words) > 3:
         print(__doc__.strip())
         return 0 if "--help" in words else 2
     paths = [pathlib.Path(word) for word in words]
-    rust, table = paths + [RUST, TABLE][len(paths):]
-    for path, remedy in (rust, "; name the original's crystalfold.rs, or its folder in SM_IR_PASSES"), (table, ""):
+    rust, table, beside = paths + [RUST, TABLE, NAMES][len(paths):]
+    kinds = rust.parent / "mod.rs"
+    for path, remedy in (rust, "; name the original's crystalfold.rs, or its folder in SM_IR_PASSES"), (kinds, ""), (table, ""), (beside, ""):
         if not path.is_file():
             print(f"table.py: no {path}{remedy}", file=sys.stderr)
             return 2
     try:
-        wrong = difference(rust.read_text(), table.read_text())
+        wrong = difference(rust.read_text(), table.read_text()) or difference_of_names(rust.read_text(), kinds.read_text(), beside.read_text())
     except ValueError:
         wrong = f"{rust} has no is_crystalfold_barrier or no fold_constants_and_identities"
     print(wrong or "ok")

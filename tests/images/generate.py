@@ -24,7 +24,7 @@ CASES = os.path.join(ROOT, "crates", "cases_passes")
 SAMPLE = os.path.join(ROOT, "tests", "differential", "sample.bin")
 
 GROUP, NAME, IMAGE, OUTPUT = range(4)
-IMAGE_CHECK, SITE_CHECK, CLEANUP, CRYSTALFOLD, REWRITE, FULLER = range(16, 22)
+IMAGE_CHECK, SITE_CHECK, CLEANUP, CRYSTALFOLD, REWRITE, FULLER, PAGES = range(16, 23)
 
 # name, image, answers by operation: a refusal (number, position, detail), or the bytes written and the count of rewrites; a check writes none
 Row = collections.namedtuple("Row", "name image answers")
@@ -83,10 +83,31 @@ def kept(name, code):
 
 def refused(name, image, number, position, detail):
     """Refusals from 11 on are the site check's alone; the operations refuse as it does."""
-    answers = dict.fromkeys((IMAGE_CHECK, SITE_CHECK, CLEANUP, CRYSTALFOLD, REWRITE, FULLER), (number, position, detail))
+    answers = dict.fromkeys((IMAGE_CHECK, SITE_CHECK, CLEANUP, CRYSTALFOLD, REWRITE, FULLER, PAGES), (number, position, detail))
     if 11 <= number:
         answers[IMAGE_CHECK] = ("", 0)
     return Row(name, image, answers)
+
+
+def laid(name, image, *pages):
+    """An image that both checks pass, with its pages, each a list of lines as they are read."""
+    lines = [line for page in pages for line in page]
+    assert all(len(line) == 57 for line in lines), name
+    return Row(name, image, {IMAGE_CHECK: ("", 0), SITE_CHECK: ("", 0), PAGES: ("".join(line + "\n" for line in lines).encode("ascii"), 0)})
+
+
+def heading(name, page):
+    return ("function %05d page %03d" % (name, page)).ljust(57)
+
+
+def cell(position, name, digits=""):
+    """A cell's line, by the digits up to the zeros."""
+    return str(position).rjust(5) + "  " + name.ljust(18) + "  " + digits.ljust(30, "0")
+
+
+def cells(first, last, name, digits=""):
+    """The lines of equal cells at the positions from first to last."""
+    return [cell(position, name, digits) for position in range(first, last + 1)]
 
 
 def counts(image):
@@ -116,7 +137,8 @@ def behind(first, second):
         return moved(*other) if len(other) == 3 else ((one[0] + " " + other[0]).strip(), one[1] + other[1])
 
     name = "%s, then %s" % (first.name, second.name)
-    return Row(name, (first.image + " " + second.image).strip(), {operation: answer(operation) for operation in first.answers})
+    operations = [operation for operation in first.answers if operation in second.answers]
+    return Row(name, (first.image + " " + second.image).strip(), {operation: answer(operation) for operation in operations})
 
 
 def joined(one, other):
@@ -124,6 +146,16 @@ def joined(one, other):
     ways = [(one, other), (other, one)]
     return [one, other] + [behind(*way) for way in ways if len(way[0].answers[IMAGE_CHECK]) == 2]
 
+
+# The commands 01 to 51 by the Rust's names.
+NAMES = """
+Assert Call ClockRead ClosureCall EventPost GateRead GateWrite Jmp JmpIf Label PulseEmit Ret RngNextI32 RngSeed StateQuery StateUpdate
+AddF64 AddFx AddI32 AdtGet AdtTag BoolAnd BoolNot BoolOr CmpEq CmpI32Le CmpI32Lt CmpU32Le CmpU32Lt AddU32 SubU32 MulU32 DivU32 ModU32 CmpNe
+ConcatText DivF64 DivFx DivI32 LoadBool LoadF64 LoadFx LoadI32 LoadQ LoadText LoadU32 LoadVar MakeAdt MakeClosure MakeRecord MakeSequence
+MakeTuple MapContains MapEmpty MapGet MapSet ModI32 MulF64 MulFx MulI32 QAnd QImpl QNot QOr QTruthAnd QTruthImpl QTruthNot QTruthOr
+RecordGet SequenceContains SequenceGet SequenceIsEmpty SequenceLen SequencePop SequencePrepend SequencePush StoreVar SubF64 SubFx SubI32
+TupleGet
+""".split()
 
 # A name and rows each, in the order of the document's modules: the checks, cleanup, CrystalFold, the image run.
 GROUPS = [
@@ -748,6 +780,62 @@ GROUPS = [
         refused("65,535 instructions", "F00700FFFF 00*4095", 2, 0, 0),
         refused("65,552 bytes", "F0*4096@1 F0", 1, 0, 0),
     ]),
+    # the printed example; heads alone; events behind instructions, whose positions go on; capital digits, all of the last 15 bytes
+    ("pages, whole", [
+        laid("nothing", ""),
+        laid("the printed example", "F0070003 2B010005 13020001000100 0C0102",
+             ["function 00007 page 001                                  ",
+              "    0  LoadI32             010005000000000000000000000000",
+              "    1  AddI32              020001000100000000000000000000",
+              "    2  Ret                 010200000000000000000000000000"]),
+        laid("no cells", "F007",
+             ["function 00007 page 001                                  "]),
+        laid("four functions, three without cells", "F0FFFF F0000001 0A09 F0 F03930",
+             ["function 65535 page 001                                  "],
+             ["function 00000 page 001                                  ",
+              "    0  Label               090000000000000000000000000000"],
+             ["function 00000 page 001                                  "],
+             ["function 12345 page 001                                  "]),
+        laid("a StoreVar's and a MakeRecord's events",
+             "F00F0002000300 4DFEFFFF0301EFCDAB890178563412 32000100AB0000010A 0001EFCDAB8900000000000F 01000000000001785634120000000F 010000000000010A000000FFFFFFFF",
+             ["function 00015 page 001                                  ",
+              "    0  StoreVar            FEFFFF0301EFCDAB89017856341200",
+              "    1  MakeRecord          000100AB0000010A00000000000000",
+              "    2  Borrow              01EFCDAB8900000000000F00000000",
+              "    3  Write               000000000001785634120000000F00",
+              "    4  Write               0000000000010A000000FFFFFFFF00"]),
+    ]),
+    # each of the 81 commands by its byte, in the Rust's order; the 49 first are on page 1
+    ("pages, names", [
+        laid("each command", "F0070051 " + " ".join("%02X" % byte for byte in range(1, 82)),
+             [heading(7, 1)] + [cell(i, name) for i, name in enumerate(NAMES[:49])],
+             [heading(7, 2)] + [cell(i, name) for i, name in enumerate(NAMES[49:], 49)]),
+        laid("both kinds of events", "F0070001000200 4D0000000000000000000105 00 0100000000000105",
+             [heading(7, 1), cell(0, "StoreVar", "0000000000000000000105"), cell(1, "Borrow"), cell(2, "Write", "000000000001050000")]),
+    ]),
+    # a page has 49 cells, instructions and events together, and the next begins where a 50th follows
+    ("pages, edges of a page", [
+        laid("1 cell", "F0070001 0A01", [heading(7, 1)] + cells(0, 0, "Label", "01")),
+        laid("49 cells", "F0070031 0A01*49", [heading(7, 1)] + cells(0, 48, "Label", "01")),
+        laid("50 cells", "F0070032 0A01*50", [heading(7, 1)] + cells(0, 48, "Label", "01"), [heading(7, 2)] + cells(49, 49, "Label", "01")),
+        laid("98 cells", "F0070062 0A01*98", [heading(7, 1)] + cells(0, 48, "Label", "01"), [heading(7, 2)] + cells(49, 97, "Label", "01")),
+        laid("99 cells", "F0070063 0A01*99", [heading(7, 1)] + cells(0, 48, "Label", "01"), [heading(7, 2)] + cells(49, 97, "Label", "01"),
+             [heading(7, 3)] + cells(98, 98, "Label", "01")),
+        laid("49 cells, twice", "F0070031 0A01*49 F0080031 0A02*49", [heading(7, 1)] + cells(0, 48, "Label", "01"), [heading(8, 1)] + cells(0, 48, "Label", "02")),
+        laid("49 instructions and an event", "F0070031000100 0A01*49 00", [heading(7, 1)] + cells(0, 48, "Label", "01"), [heading(7, 2)] + cells(49, 49, "Borrow")),
+        laid("48 instructions and 3 events", "F0070030000300 0A01*48 00*3",
+             [heading(7, 1)] + cells(0, 47, "Label", "01") + cells(48, 48, "Borrow"), [heading(7, 2)] + cells(49, 50, "Borrow")),
+        laid("50 events", "F0070000003200 00*50", [heading(7, 1)] + cells(0, 48, "Borrow"), [heading(7, 2)] + cells(49, 49, "Borrow")),
+    ]),
+    # 4,096 cells: functions of 3,039 and 1,055 cells give 63 and 22 pages, 4,179 lines in all, and no image has more
+    ("pages, longest", [
+        laid("the longest function", "F0FFFF00080004 0A01*2048 00*1024",
+             *[[heading(65535, 1 + i // 49)] + [cell(k, "Label", "01") if k < 2048 else cell(k, "Borrow") for k in range(i, min(i + 49, 3072))] for i in range(0, 3072, 49)]),
+        laid("4,179 lines", "F001000008DF03 0A01*2048 00*991 F002001F04 0A02*1055",
+             *[[heading(1, 1 + i // 49)] + [cell(k, "Label", "01") if k < 2048 else cell(k, "Borrow") for k in range(i, min(i + 49, 3039))] for i in range(0, 3039, 49)],
+             *[[heading(2, 1 + i // 49)] + cells(i, min(i + 49, 1055) - 1, "Label", "02") for i in range(0, 1055, 49)]),
+        laid("4,096 functions without cells", "F007*4096", [heading(7, 1)] * 4096),
+    ]),
 ]
 
 
@@ -761,8 +849,25 @@ def bytes_record(kind, data):
     return record(kind, length=length, listed=listed)
 
 
+def page_calls(image, answer):
+    """The calls of `pages`: lent as much as the pages, a byte and a line more; and a byte less, as much as the image, and nothing, which refuse
+    30 after all that the site check refuses."""
+    n = runs(image)[0]
+    if len(answer) == 3:
+        yield from (record(PAGES, refusal=answer, room=room) for room in (0, n, 4000))
+        return
+    length = runs(answer[0])[0]
+    yield bytes_record(OUTPUT, answer[0])
+    yield from (record(PAGES, length=length, room=room) for room in (length, length + 1, length + 58))
+    if length:
+        yield from (record(PAGES, refusal=(30, 0, 0), room=room) for room in (length - 1, n, 0))
+
+
 def calls(operation, image, answer):
-    """An operation's calls on an image: a check is lent nothing; the others as much as the image, a byte and a cell more, and a byte less."""
+    """An operation's calls on an image: a check is lent nothing; a rewrite as much as the image, a byte and a cell more, and a byte less."""
+    if operation == PAGES:
+        yield from page_calls(image, answer)
+        return
     n = runs(image)[0]
     rooms = [0] if operation in (IMAGE_CHECK, SITE_CHECK) else [n, n + 1, n + 16]
     if len(answer) == 2:

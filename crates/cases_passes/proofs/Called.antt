@@ -59,7 +59,7 @@ module _ (h s want : List ℕ) (a : Asked) (asked : a ≡ askedBy (byte h 0)) wh
     length-in : e .length ≡ word h 12
     length-in = ap (λ (x : Reply). x .length) ee
 
-    pub too-far : (r : Bool) → r ≡ false → 65568 < room → (r ≡ true) ↔ Holds h s want
+    pub too-far : (r : Bool) → r ≡ false → 242440 < room → (r ≡ true) ↔ Holds h s want
     too-far r d k = refused r d (λ (p : HoldsAs a h s want). omega (arith, fits p .room, er))
 
     pub too-long : (r : Bool) → r ≡ false → room < e .length → (r ≡ true) ↔ Holds h s want
@@ -68,10 +68,10 @@ module _ (h s want : List ℕ) (a : Asked) (asked : a ≡ askedBy (byte h 0)) wh
     pub not-given : (r : Bool) → r ≡ false → length want < e .length → (r ≡ true) ↔ Holds h s want
     not-given r d k = refused r d (λ (p : HoldsAs a h s want). omega (arith, fits p .given, length-in))
 
-    pub held : (r : Bool) → room ≤ 65568 → e .length ≤ room → e .length ≤ length want → (r ≡ true) ↔ Agrees o s (take (e .length) want) e room (room + 64)
+    pub held : (r : Bool) → room ≤ 242440 → e .length ≤ room → e .length ≤ length want → (r ≡ true) ↔ Agrees o s (take (e .length) want) e room (room + 64)
         → (r ≡ true) ↔ Holds h s want
     held r i j k f =
-        let i′ : roomIn h ≤ 65568 = omega (arith, er) in
+        let i′ : roomIn h ≤ 242440 = omega (arith, er) in
         let j′ : word h 12 ≤ roomIn h = omega (arith, length-in, er) in
         let k′ : word h 12 ≤ length want = omega (arith, length-in) in
         through r f

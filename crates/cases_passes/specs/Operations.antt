@@ -1,23 +1,26 @@
--- Inner: the operations of documents 01 and 02 by their bytes in a file of cases (tests/images/README.md), what each answers by document 01's
+-- Inner: the operations of documents 01 and 02 by their bytes in a file of cases (tests/images/README.md), what each answers by their
 -- numbers, and what it leaves in a lent output.
 use Prim.Native.Nat.{ℕ}
 use mathlib.Core.List.{List}
 use mathlib.Core.Bool.{Bool, false, cond}
 use lib.Dec.{eqb}
 use Rattle.cells.specs.Lists.{one}
-use Rattle.cells.specs.Refusals.{numbersOf}
+use Rattle.cells.specs.Refusals.{numbered, numbersOf}
 use Rattle.cells.specs.declared.refusal.Numbers.{Numbers}
 use Rattle.cells.specs.declared.refusal.Checked.{Checked}
 use Rattle.cells.specs.declared.refusal.Checked.the-variants.{Good, Refused as RefusedBy}
 use Rattle.crystalfold.specs.declared.rules.RuleSet.the-variants.{Default as DefaultRules, Fuller as FullerRules}
 use Rattle.image.specs.Image.{imageAnswer}
 use Rattle.image.specs.SiteCheck.{siteAnswer}
+use Rattle.pages.specs.Contracts.{pagesAnswer, pagesOutput}
+use Rattle.pages.specs.declared.Paged.{Paged}
+use Rattle.pages.specs.declared.Paged.the-variants.{Laid, Refused as RefusedPages, TooShort}
 use Rattle.passes.specs.Passes.{passAnswer, passOutput}
 use Rattle.passes.specs.declared.Pass.the-variants.{Cleanup as CleanupPass, CrystalFold as CrystalFoldPass, Both}
 use Rattle.passes.specs.declared.Rewrite.{Rewrite}
 use Rattle.passes.specs.declared.Rewrite.the-variants.{Written, Refused}
 use Rattle.cases_passes.specs.declared.operation.Operation.{Operation}
-use Rattle.cases_passes.specs.declared.operation.Operation.the-variants.{ImageCheck, SiteCheck, Cleanup, CrystalFold, Default, Fuller}
+use Rattle.cases_passes.specs.declared.operation.Operation.the-variants.{ImageCheck, SiteCheck, Cleanup, CrystalFold, Default, Fuller, Pages}
 use Rattle.cases_passes.specs.declared.operation.Asked.{Asked}
 use Rattle.cases_passes.specs.declared.operation.Asked.the-variants.{Run, Unknown}
 use Rattle.cases_passes.specs.declared.operation.Reply.{Reply}
@@ -29,7 +32,8 @@ askedBy n =
     (cond (eqb n 18) (Run Cleanup)
     (cond (eqb n 19) (Run CrystalFold)
     (cond (eqb n 20) (Run Default)
-    (cond (eqb n 21) (Run Fuller) Unknown)))))
+    (cond (eqb n 21) (Run Fuller)
+    (cond (eqb n 22) (Run Pages) Unknown))))))
 
 -- "success gives the length written and the report"; "the two checks .. on success answer only that"
 abbrev pub goodReply : ℕ → ℕ → Bool → Reply
@@ -46,6 +50,11 @@ abbrev pub rewriteReply : Rewrite → Reply
 rewriteReply (Written n report) = goodReply n (report .«num_rewrites») (report .changed)
 rewriteReply (Refused x) = refusedReply (numbersOf x)
 
+abbrev pub pagesReply : Paged → Reply
+pagesReply (Laid n) = goodReply n 0 false
+pagesReply (RefusedPages x) = refusedReply (numbersOf x)
+pagesReply TooShort = refusedReply (numbered 30 0 0)
+
 -- on the image s, lent n bytes
 abbrev pub answer : Operation → List ℕ → ℕ → Reply
 answer ImageCheck s n = checkReply (imageAnswer s)
@@ -54,6 +63,7 @@ answer Cleanup s n = rewriteReply (passAnswer CleanupPass s n)
 answer CrystalFold s n = rewriteReply (passAnswer (CrystalFoldPass DefaultRules) s n)
 answer Default s n = rewriteReply (passAnswer (Both DefaultRules) s n)
 answer Fuller s n = rewriteReply (passAnswer (Both FullerRules) s n)
+answer Pages s n = pagesReply (pagesAnswer s n)
 
 -- what the lent bytes then are; "the two checks write nothing"
 abbrev pub output : Operation → List ℕ → List ℕ → List ℕ
@@ -63,3 +73,4 @@ output Cleanup s before = passOutput CleanupPass s before
 output CrystalFold s before = passOutput (CrystalFoldPass DefaultRules) s before
 output Default s before = passOutput (Both DefaultRules) s before
 output Fuller s before = passOutput (Both FullerRules) s before
+output Pages s before = pagesOutput s before

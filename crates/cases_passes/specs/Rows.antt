@@ -36,7 +36,7 @@ roomIn h = word h 8
 
 -- the call fits the buffers, and the operation agrees
 pub record Fits (o : Operation) (h s want : List ℕ) : Type 0 where
-  pub room : roomIn h ≤ 65568
+  pub room : roomIn h ≤ 242440
   pub short : word h 12 ≤ roomIn h
   pub given : word h 12 ≤ length want
   pub agrees : Agrees o s (take (word h 12) want) (replyIn h) (roomIn h) (roomIn h + 64)

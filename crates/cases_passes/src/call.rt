@@ -67,7 +67,7 @@ fn malformed(name: &[u8]) -> bool
 
 // The operation's byte, the bytes lent, and both answers; where these are the same, the output is wrong.
 fn wrong(byte: u8, name: &[u8], operation: Operation, image: &[u8], room: usize, expected: Reply)
-    requires { ⌜ room ≤ 65568 ⌝ }
+    requires { ⌜ room ≤ 242440 ⌝ }
 {
     casebook::text(b"wrong: ");
     casebook::text(name);
@@ -84,7 +84,7 @@ fn wrong(byte: u8, name: &[u8], operation: Operation, image: &[u8], room: usize,
 
 // The answer of one more call.
 fn again(operation: Operation, image: &[u8], room: usize) -> Reply
-    requires { ⌜ room ≤ 65568 ⌝ }
+    requires { ⌜ room ≤ 242440 ⌝ }
     ensures { λ r. ⌜ r ≡ answer operation (now (image .entry)) room ⌝ }
 {
     let mut out = lent::space();

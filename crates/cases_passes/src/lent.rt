@@ -10,19 +10,19 @@ use crate::operation;
 use crate::operation::Operation;
 use crate::operation::Reply;
 
-// The most bytes that are lent: an image a cell longer than the limit, and a cell more.
-pub const MAX_ROOM: usize = 65568;
+// The most bytes that are lent: the longest pages, and a line more.
+pub const MAX_ROOM: usize = 242440;
 
 // Marked bytes behind the lent ones.
 const BEHIND: usize = 64;
 
 // Both.
-const SPACE: usize = 65632;
+const SPACE: usize = 242504;
 
 // Whether an operation on an image, lent `room` bytes of a marked output, gives the reply and leaves `want` in the output, and behind it,
 // past the lent bytes too, the marks.
 pub fn agrees(operation: Operation, image: &[u8], want: &[u8], expected: Reply, room: usize) -> bool
-    requires { ⌜ (room ≤ 65568) × (length (now want) ≤ room) ⌝ }
+    requires { ⌜ (room ≤ 242440) × (length (now want) ≤ room) ⌝ }
     ensures { λ r. ⌜ (r ≡ true) ↔ Agrees operation (now (image .entry)) (now (want .entry)) expected room (room + 64) ⌝ }
 {
     let mut out = space();
@@ -40,7 +40,7 @@ pub fn agrees(operation: Operation, image: &[u8], want: &[u8], expected: Reply, 
 }
 
 pub fn space() -> [u8; SPACE]
-    ensures { λ r. ⌜ 65632 ≡ length r ⌝ }
+    ensures { λ r. ⌜ 242504 ≡ length r ⌝ }
 {
     [0; SPACE]
 }

@@ -1,13 +1,14 @@
-// The operations by their bytes in a file of cases, and their answers by document 01's numbers.
+// The operations by their bytes in a file of cases, and their answers by the documents' numbers.
 ghost use mathlib.Core.Path.{_≡_};
 ghost use mathlib.Core.Logic.{_↔_};
 ghost use mathlib.Core.Bool.{true};
 ghost use lib.ListN.{length};
 ghost use Rattle.cells.specs.Lists.{one};
-ghost use Rattle.cases_passes.specs.Operations.{askedBy, goodReply, refusedReply, checkReply, rewriteReply, answer, output};
+ghost use Rattle.cases_passes.specs.Operations.{askedBy, goodReply, refusedReply, checkReply, rewriteReply, pagesReply, answer, output};
 use cells::refusal::Checked;
 use cells::refusal::Numbers;
 use cells::refusal::numbers_of;
+use pages::Paged;
 use passes::Rewrite;
 
 pub enum Operation {
@@ -17,6 +18,7 @@ pub enum Operation {
     CrystalFold,
     Default,
     Fuller,
+    Pages,
 }
 
 // What a byte asks for.
@@ -45,6 +47,7 @@ pub fn asked_by(byte: u8) -> Asked
         19 => Asked::Run(Operation::CrystalFold),
         20 => Asked::Run(Operation::Default),
         21 => Asked::Run(Operation::Fuller),
+        22 => Asked::Run(Operation::Pages),
         _ => Asked::Unknown,
     }
 }
@@ -61,6 +64,7 @@ pub fn run(operation: Operation, image: &[u8], out: &mut [u8]) -> Reply
         Operation::CrystalFold => of_rewrite(passes::crystalfold(image, out)),
         Operation::Default => of_rewrite(passes::run_default_opt_passes(image, out)),
         Operation::Fuller => of_rewrite(passes::run_fuller_opt_passes(image, out)),
+        Operation::Pages => of_pages(pages::pages(image, out)),
     }
 }
 
@@ -79,6 +83,20 @@ fn of_rewrite(r: Rewrite) -> Reply
     match r {
         Rewrite::Written(length, report) => good(length, report.num_rewrites, report.changed),
         Rewrite::Refused(x) => refused(numbers_of(x)),
+    }
+}
+
+fn of_pages(r: Paged) -> Reply
+    ensures { λ t. ⌜ t ≡ pagesReply r ⌝ }
+{
+    match r {
+        Paged::Laid(length) => good(length, 0, false),
+        Paged::Refused(x) => refused(numbers_of(x)),
+        Paged::TooShort => refused(Numbers {
+            number: 30,
+            position: 0,
+            detail: 0,
+        }),
     }
 }
 

@@ -12,6 +12,9 @@ use crate::runs;
 // Bytes of the longest image here, a cell more than the limit.
 const LONGEST: usize = 65552;
 
+// Bytes for the longest output, the longest pages, in whole cells.
+const OUTPUT: usize = 242384;
+
 // How many bytes of each buffer count, and the group's counts: its images, and its calls that held.
 struct State {
     group: usize,
@@ -32,7 +35,7 @@ pub fn run(fd: i32) {
     let mut group = io::buffer();
     let mut name = io::buffer();
     let mut image = longest();
-    let mut want = longest();
+    let mut want = longest_output();
     let mut state = start(0);
     let mut turns = u64::MAX;
     while 0 < turns {
@@ -55,12 +58,18 @@ fn longest() -> [u8; LONGEST]
     [0; LONGEST]
 }
 
+fn longest_output() -> [u8; OUTPUT]
+    ensures { λ r. ⌜ 242384 ≡ length r ⌝ }
+{
+    [0; OUTPUT]
+}
+
 fn record(
     fd: i32,
     group: &mut [u8; 4096],
     name: &mut [u8; 4096],
     image: &mut [u8; LONGEST],
-    want: &mut [u8; LONGEST],
+    want: &mut [u8; OUTPUT],
     s: State,
 ) -> Step {
     let mut head = [0u8; HEAD];

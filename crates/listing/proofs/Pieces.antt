@@ -26,6 +26,13 @@ module _ {text before after : List ℕ} {at : ℕ} (w : TextWritten text before 
   pub written-length : at ≤ length before → length after ≡ length before
   written-length h = rw (w .bytes) (length-over text before (omega (arith, w .end)))
 
+  -- a text as long as the buffer
+  pub written-whole : length text ≡ length before → after ≡ text
+  unfolding over
+  written-whole e =
+      let l : length before ≤ length text = omega arith in
+      w .bytes ∙ rw (drop-of-length-le before l) (append-nil text)
+
   -- one byte more
   pub written-byte : (x : ℕ) → at < length before → TextWritten (text ++ x ∷ []) before (set after at x) (at + 1)
   written-byte x h = record {

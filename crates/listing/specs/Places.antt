@@ -1,10 +1,12 @@
 -- Promise: texts in ASCII, and texts and numbers in a fixed number of places (document 02, W1: 'five digits', 'five places, blank-filled on the
 -- left', '18 places from the left').
+use mathlib.Core.Bool.{cond}
 use mathlib.Core.List.{List, [], _∷_, _++_}
 use Prim.Native.Nat.{ℕ, zero, suc, _-_, _/_, _%_}
 use Prim.Native.Char.{code}
 use Prim.Native.String.{String}
 use Prim.Native.String as Str
+use lib.Dec.{ltb}
 use lib.ListN.{length, replicate}
 use Rattle.listing.specs.Decimal.{digit}
 use Rattle.listing.specs.Text.{blank}
@@ -30,3 +32,7 @@ fillLeft places s = blanks (places - length s) ++ s
 abbrev pub digits : ℕ → ℕ → List ℕ
 digits zero n = []
 digits (suc places) n = digits places (n / 10) ++ digit (n % 10) ∷ []
+
+-- its digit at the place of a unit, a power of ten; a blank where the number is less
+abbrev pub placeOf : ℕ → ℕ → ℕ
+placeOf n unit = cond (ltb n unit) blank (digit (n / unit % 10))

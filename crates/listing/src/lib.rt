@@ -1,11 +1,11 @@
 // The text of an answer, as the printing program writes it, into a buffer that the caller lends.
 ghost use mathlib.Core.Path.{_≡_};
 ghost use mathlib.Core.List.{_++_};
-ghost use Prim.Native.Nat.{_+_, _*_, _/_, _≤_, _<_};
+ghost use Prim.Native.Nat.{_+_, _*_, _/_, _%_, _≤_, _<_};
 ghost use lib.ListN.{length, take};
 ghost use Rattle.cells.specs.Cells.{cells as «cellsOf», over};
-ghost use Rattle.listing.specs.Decimal.{decimal};
-ghost use Rattle.listing.specs.Places.{blanks, fillLeft, digits};
+ghost use Rattle.listing.specs.Decimal.{digit as «digitOf», decimal};
+ghost use Rattle.listing.specs.Places.{placeOf};
 ghost use Rattle.listing.specs.Text.{hexDigit, hex, cellLine, cellLines, field, rewritesLine, rewrittenText, refusedText, goodText, checkedText};
 ghost use Rattle.listing.specs.Contracts.{Listing, TextWritten};
 use cells::read::CELL;
@@ -151,32 +151,22 @@ pub fn put_decimal(n: usize, text: &mut [u8], at: usize) -> usize
     k + 1
 }
 
-// A number in so many places, behind blanks.
-pub fn put_aligned(places: usize, n: usize, text: &mut [u8], at: usize) -> usize
-    requires { ⌜ (length (decimal n) ≤ places) × (at + places ≤ length (now text)) ⌝ }
-    ensures { λ r. ⌜ TextWritten (take at (now (text .entry)) ++ fillLeft places (decimal n)) (now (text .entry)) (now (text .exit)) r ⌝ }
+// The last digit of a number.
+pub fn digit(n: usize) -> u8
+    ensures { λ r. ⌜ r ≡ digitOf (n % 10) ⌝ }
 {
-    if n < 10 {
-        let b = put_blanks(places - 1, text, at);
-        text[b] = b'0' + n as u8;
-        return b + 1;
-    }
-    let k = put_aligned(places - 1, n / 10, text, at);
-    text[k] = b'0' + (n % 10) as u8;
-    k + 1
+    b'0' + (n % 10) as u8
 }
 
-// The last digits of a number, so many, with zeros in front where it has fewer.
-pub fn put_digits(places: usize, n: usize, text: &mut [u8], at: usize) -> usize
-    requires { ⌜ at + places ≤ length (now text) ⌝ }
-    ensures { λ r. ⌜ TextWritten (take at (now (text .entry)) ++ digits places n) (now (text .entry)) (now (text .exit)) r ⌝ }
+// The digit of a number at the place of a unit: of a ten, of a hundred; a blank where the number is less.
+pub fn place(n: usize, unit: usize) -> u8
+    requires { ⌜ 0 < unit ⌝ }
+    ensures { λ r. ⌜ r ≡ placeOf n unit ⌝ }
 {
-    if places == 0 {
-        return at;
+    if n < unit {
+        return b' ';
     }
-    let k = put_digits(places - 1, n / 10, text, at);
-    text[k] = b'0' + (n % 10) as u8;
-    k + 1
+    digit(n / unit)
 }
 
 // Two digits a byte.
@@ -191,21 +181,6 @@ pub fn put_hex(bytes: &[u8], text: &mut [u8], at: usize) -> usize
         text[k] = hex_digit(b / 16);
         text[k + 1] = hex_digit(b % 16);
         k += 2;
-        i += 1;
-    }
-    k
-}
-
-// So many blanks.
-pub fn put_blanks(count: usize, text: &mut [u8], at: usize) -> usize
-    requires { ⌜ at + count ≤ length (now text) ⌝ }
-    ensures { λ r. ⌜ TextWritten (take at (now (text .entry)) ++ blanks count) (now (text .entry)) (now (text .exit)) r ⌝ }
-{
-    let mut k = at;
-    let mut i: usize = 0;
-    while i < count {
-        text[k] = b' ';
-        k += 1;
         i += 1;
     }
     k

@@ -8,10 +8,11 @@ use lib.Ieee as Ieee
 use Rattle.leaves.specs.Signed.{wrap, addI32}
 use Rattle.leaves.specs.Float.{floatOf, bitsOf, divF64}
 use Rattle.leaves.specs.Quads.{quadOf}
-use Rattle.cells.specs.Assembler.{Head, LoadF64, LoadI32, LoadQ, AddI32, DivF64, QTruthNot, Ret}
+use Rattle.cells.specs.Assembler.{Head, LoadF64, LoadI32, LoadQ, AddI32, DivF64, QTruthNot, Ret, site, noSite, StoreVarSited, Borrow}
 use Rattle.cells.specs.Cells.{Cell, flat}
 use Rattle.cells.specs.Check.{instructionCheck, eventCheck, headCheck}
 use Rattle.cells.specs.Functions.{functions}
+use Rattle.cells.specs.Names.{commandNames, eventNames}
 use Rattle.cells.specs.Table.{rows, classOf}
 use Rattle.cells.specs.View.{view, loadCell}
 use Rattle.sites.specs.Sites.{siteOf, eventSite, siteBy}
@@ -24,8 +25,10 @@ use Rattle.image.specs.Image.{imageAnswer}
 use Rattle.image.specs.SiteCheck.{siteAnswer}
 use Rattle.passes.specs.Passes.{passAnswer, passBytes, passCheck, passCount}
 use Rattle.listing.specs.Decimal.{decimal}
+use Rattle.listing.specs.Places.{ascii}
 use Rattle.listing.specs.Text.{cellLine, rewritesLine, rewrittenText, refusedText, refusalText, goodText}
-use Rattle.matchdesk.specs.Program.{Texts, onOutput, onError, askedFor, programTexts, rewriteWord, fullerWord, bytesWord, checkWord}
+use Rattle.pages.specs.Pages.{heading, cellLine as pageLine, pageLines, pagesText}
+use Rattle.matchdesk.specs.Program.{Texts, onOutput, onError, askedFor, programTexts, rewriteWord, fullerWord, bytesWord, checkWord, pagesWord}
 use Rattle.matchdesk.specs.declared.Asked.{Asked}
 use Rattle.matchdesk.specs.declared.Asked.the-variants.{For, Unknown}
 
@@ -62,6 +65,10 @@ apart = Head 7 4 0 ∷ LoadI32 257 5 ∷ LoadI32 1 7 ∷ AddI32 1023 257 1 ∷ R
 
 beyond : List Cell
 beyond = Head 7 1 0 ∷ LoadI32 1024 5 ∷ []
+
+-- StoreVar with the activation site 9, and its Borrow event, in function 65,535
+sited : List Cell
+sited = Head 65535 1 1 ∷ StoreVarSited (site 9) noSite ∷ Borrow (site 9) noSite ∷ []
 
 -- `good`; `refused`, a number, 0 and a detail, as `refused 1 0 0`; `rewrites 1`, `rewrites 0`
 good : List ℕ
@@ -117,13 +124,30 @@ cases =
     ∷ case bytesWord (0 ∷ []) (some (onError (refused 49 48)))
     ∷ case checkWord (replicate 16 0) (some (onOutput (refused 50 48)))
     ∷ case bytesWord (replicate 16 0) (some (onError (refused 50 48)))
-    -- no word: none at all, `byte`, `checks`, `full`
+    -- the pages: of the printed example, of a site with its event, of nothing; a refusal as of a rewrite, on standard output
+    ∷ case pagesWord (flat example) (some (onOutput (
+    ascii "function 00007 page 001                                  " ++ 10 ∷ []
+    ++ ascii "    0  LoadI32             010005000000000000000000000000" ++ 10 ∷ []
+    ++ ascii "    1  AddI32              020001000100000000000000000000" ++ 10 ∷ []
+    ++ ascii "    2  Ret                 010200000000000000000000000000" ++ 10 ∷ []
+    )))
+    ∷ case pagesWord (flat sited) (some (onOutput (
+    ascii "function 65535 page 001                                  " ++ 10 ∷ []
+    ++ ascii "    0  StoreVar            000000000109000000000000000000" ++ 10 ∷ []
+    ++ ascii "    1  Borrow              010900000000000000000000000000" ++ 10 ∷ []
+    )))
+    ∷ case pagesWord [] (some (onOutput []))
+    ∷ case pagesWord (0 ∷ []) (some (onOutput (refused 49 48)))
+    ∷ case pagesWord (replicate 16 0) (some (onOutput (refused 50 48)))
+    ∷ case pagesWord (flat beyond) (some (onOutput (refused 52 49)))
+    -- no word: none at all, `byte`, `checks`, `full`, `page`
     ∷ case [] (flat example) none
     ∷ case (98 ∷ 121 ∷ 116 ∷ 101 ∷ []) (flat example) none
     ∷ case (checkWord ++ 115 ∷ []) (flat example) none
     ∷ case (102 ∷ 117 ∷ 108 ∷ 108 ∷ []) (flat example) none
+    ∷ case (112 ∷ 97 ∷ 103 ∷ 101 ∷ []) (flat example) none
     ∷ []
 
 pub worked : map (λ (c : ProgramCase). case (c .argument) (c .image) (doneFor (askedFor (c .argument)) (c .image))) cases ≡ cases
-unfolding doneFor example rewritten quads zeros apart beyond good refused count cases askedFor programTexts passAnswer passBytes passCheck passCount siteAnswer imageAnswer functions instructionCheck eventCheck headCheck rows siteOf eventSite siteBy repeatAnswer activationAnswer judgeBy cleanCode cleanCount cleanEvents cleanFunction foldCode foldsOf foldFunction defaultRules defaultTable fullerRules fullerTable note view loadCell quadOf classOf wrap addI32 decimal rewritesLine rewrittenText refusedText refusalText goodText floatOf bitsOf divF64 Ieee.eq Ieee.div Ieee.ofBits Ieee.toBits
+unfolding doneFor example rewritten quads zeros apart beyond sited good refused count cases askedFor programTexts passAnswer passBytes passCheck passCount siteAnswer imageAnswer functions instructionCheck eventCheck headCheck rows siteOf eventSite siteBy repeatAnswer activationAnswer judgeBy cleanCode cleanCount cleanEvents cleanFunction foldCode foldsOf foldFunction defaultRules defaultTable fullerRules fullerTable note view loadCell quadOf classOf wrap addI32 decimal rewritesLine rewrittenText refusedText refusalText goodText floatOf bitsOf divF64 Ieee.eq Ieee.div Ieee.ofBits Ieee.toBits pagesText pageLines heading pageLine commandNames eventNames
 worked = refl

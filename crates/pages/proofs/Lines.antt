@@ -30,20 +30,15 @@ use Rattle.listing.specs.Decimal.{decimal}
 use Rattle.listing.specs.Places.{ascii, fill, fillLeft}
 use Rattle.listing.specs.Text.{lineFeed, hex}
 use Rattle.listing.proofs.Lines.{length-hex}
-use Rattle.listing.proofs.Numerals.{length-few}
-use Rattle.listing.proofs.Placed.{length-fill-left}
+use Rattle.listing.proofs.Placed.{five-places}
 use Rattle.pages.specs.Pages.{Line, heading, cellLine, startsPage, newPage, entryLines, partLines, nameIn, functionLines, allLines, pageLines, pagesText, pagesOf, linesOf, linesOfAll, lineBytes, mostLines}
 use Rattle.pages.specs.Steps.{cellTitle, Named, Listable, ListableFunction}
 use Rattle.pages.proofs.NameTable.{length-name}
 
 -- ---- the pieces of a line
 
--- a position has five places
-pub few-places : (position : ℕ) → position < 4096 → length (decimal position) ≤ 5
-few-places position h = length-few 4 position (omega arith) (omega arith)
-
 pub length-position : (position : ℕ) → position < 4096 → length (fillLeft 5 (decimal position)) ≡ 5
-length-position position h = length-fill-left 5 (decimal position) (few-places position h)
+length-position position h = ap length (five-places position (omega arith))
 
 pub length-heading : (name page : ℕ) → length (heading name page) ≡ 58
 unfolding heading

@@ -2,3 +2,4 @@ pub mod Pages
 pub mod Contracts
 pub mod Apart
 pub mod Steps
+pub mod Cases

@@ -30,7 +30,7 @@ pub enum Paged {
 }
 
 // Bytes of a line, with its line feed.
-const LINE: usize = 58;
+pub const LINE: usize = 58;
 
 // Cells of a page.
 pub const PAGE: usize = 49;

@@ -1,26 +1,22 @@
 // The lines. Each function here writes its piece at a position, and answers the position behind it.
+use crate::LINE;
 use crate::PAGE;
 use crate::names;
 use cells::walk::Part;
+use listing::append;
+use listing::digit;
+use listing::place;
+use listing::put_hex;
 ghost use mathlib.Core.Path.{_≡_};
 ghost use mathlib.Core.List.{_++_};
 ghost use Prim.Native.Nat.{_+_, _≤_, _<_};
 ghost use lib.ListN.{length, take};
 ghost use Rattle.cells.specs.Cells.{flat};
 ghost use Rattle.listing.specs.Contracts.{TextWritten};
-ghost use Rattle.listing.specs.Places.{digits};
+ghost use Rattle.listing.specs.Decimal.{decimal};
+ghost use Rattle.listing.specs.Places.{fillLeft};
 ghost use Rattle.pages.specs.Pages.{heading, cellLine, newPage, entryLines};
 ghost use Rattle.pages.specs.Steps.{nameTable, cellTitle, Listable, EntryRoom};
-
-// Places of a function's name, of a page's number and of a cell's position.
-const NAME: usize = 5;
-
-const NUMBER: usize = 3;
-
-const POSITION: usize = 5;
-
-// Blanks behind a heading.
-const BLANKS: usize = 34;
 
 // The cell at a position, and the heading before it where a page begins.
 pub fn put_entry(
@@ -58,20 +54,16 @@ pub fn put_heading(name: usize, page: usize, text: &mut [u8], at: usize) -> usiz
     requires { ⌜ at + 58 ≤ length (now text) ⌝ }
     ensures { λ r. ⌜ TextWritten (take at (now (text .entry)) ++ heading name page) (now (text .entry)) (now (text .exit)) r ⌝ }
 {
-    let a = put_numbered(b"function ", NAME, name, text, at);
-    let b = put_numbered(b" page ", NUMBER, page, text, a);
-    let c = listing::put_blanks(BLANKS, text, b);
-    text[c] = b'\n';
-    c + 1
-}
-
-// A word, and a number in so many digits.
-fn put_numbered(word: &[u8], places: usize, n: usize, text: &mut [u8], at: usize) -> usize
-    requires { ⌜ at + length (now word) + places ≤ length (now text) ⌝ }
-    ensures { λ r. ⌜ TextWritten (take at (now (text .entry)) ++ (now (word .entry) ++ digits places n)) (now (text .entry)) (now (text .exit)) r ⌝ }
-{
-    let a = listing::append(word, text, at);
-    listing::put_digits(places, n, text, a)
+    let mut line = *b"function 00000 page 000                                  \n";
+    line[9] = digit(name / 10 / 10 / 10 / 10);
+    line[10] = digit(name / 10 / 10 / 10);
+    line[11] = digit(name / 10 / 10);
+    line[12] = digit(name / 10);
+    line[13] = digit(name);
+    line[20] = digit(page / 10 / 10);
+    line[21] = digit(page / 10);
+    line[22] = digit(page);
+    append(&line, text, at)
 }
 
 // The line of a cell of a part, at its position in the function.
@@ -86,26 +78,44 @@ fn put_cell(
     requires { ⌜ (now names ≡ nameTable) × Listable p (now cell) × (position < 4096) × (at + 58 ≤ length (now text)) ⌝ }
     ensures { λ r. ⌜ TextWritten (take at (now (text .entry)) ++ cellLine p position (now (cell .entry))) (now (text .entry)) (now (text .exit)) r ⌝ }
 {
-    let a = put_title(names, p, position, cell, text, at);
-    let b = listing::append(b"  ", text, a);
-    let c = listing::put_hex(&cell[1..], text, b);
-    text[c] = b'\n';
+    let mut line = [0u8; LINE];
+    put_line(names, p, position, cell, &mut line);
+    append(&line, text, at)
+}
+
+// The same at the start of a buffer of its own. (What is put together there, and then copied as a whole, takes half the time.)
+fn put_line(names: &[u8], p: Part, position: usize, cell: &[u8], line: &mut [u8]) -> usize
+    requires { ⌜ (now names ≡ nameTable) × Listable p (now cell) × (position < 4096) × (length (now line) ≡ 58) ⌝ }
+    ensures { λ r. ⌜ TextWritten (cellLine p position (now (cell .entry))) (now (line .entry)) (now (line .exit)) r ⌝ }
+{
+    let a = put_title(names, p, position, cell, line);
+    let b = append(b"  ", line, a);
+    let c = put_hex(&cell[1..], line, b);
+    line[c] = b'\n';
     c + 1
 }
 
 // A cell's position, two blanks and its name.
-fn put_title(
-    names: &[u8],
-    p: Part,
-    position: usize,
-    cell: &[u8],
-    text: &mut [u8],
-    at: usize,
-) -> usize
-    requires { ⌜ (now names ≡ nameTable) × Listable p (now cell) × (position < 4096) × (at + 25 ≤ length (now text)) ⌝ }
-    ensures { λ r. ⌜ TextWritten (take at (now (text .entry)) ++ cellTitle p position (now (cell .entry))) (now (text .entry)) (now (text .exit)) r ⌝ }
+fn put_title(names: &[u8], p: Part, position: usize, cell: &[u8], line: &mut [u8]) -> usize
+    requires { ⌜ (now names ≡ nameTable) × Listable p (now cell) × (position < 4096) × (length (now line) ≡ 58) ⌝ }
+    ensures { λ r. ⌜ TextWritten (cellTitle p position (now (cell .entry))) (now (line .entry)) (now (line .exit)) r ⌝ }
 {
-    let a = listing::put_aligned(POSITION, position, text, at);
-    let b = listing::append(b"  ", text, a);
-    names::put_name(names, p, cell, text, b)
+    let a = put_position(position, line);
+    let b = append(b"  ", line, a);
+    names::put_name(names, p, cell, line, b)
+}
+
+// A position in five places, blanks on the left.
+fn put_position(n: usize, line: &mut [u8]) -> usize
+    requires { ⌜ (n < 4096) × (length (now line) ≡ 58) ⌝ }
+    ensures { λ r. ⌜ TextWritten (fillLeft 5 (decimal n)) (now (line .entry)) (now (line .exit)) r ⌝ }
+{
+    let places = [
+        place(n, 10000),
+        place(n, 1000),
+        place(n, 100),
+        place(n, 10),
+        digit(n),
+    ];
+    append(&places, line, 0)
 }

@@ -30,10 +30,18 @@ returns-6 c =
     let d = c .before .before .before .run-fuller-opt-passes .ensures .done in
     simp (c .of-rewrite4 .ensures, d .answer, d .bytes, c .before .before .before .before .before .enum-told6 .given .1) (refl, refl)
 
+returns-7 : tie.Need-returns-7
+returns-7 c =
+    let d = c .before .before .before .pages .ensures in
+    simp (c .of-pages .ensures, d .answer, d .bytes, c .before .before .before .before .before .enum-told7 .given .1) (refl, refl)
+
 pub run-spec : {M : Type 1} → statement M
 run-spec =
     tie.close
     (tie.spec
+    (λ c. search needs)
+    (λ c κs. search needs)
+    (λ c κs. search needs)
     (λ c. search needs)
     (λ c κs. search needs)
     (λ c κs. search needs)
@@ -61,4 +69,6 @@ run-spec =
     (λ c. search needs)
     returns-5
     (λ c. search needs)
-    returns-6)
+    returns-6
+    (λ c. search needs)
+    returns-7)
