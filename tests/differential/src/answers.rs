@@ -1,4 +1,4 @@
-//! The answers of the six operations.
+//! The answers of the seven operations.
 
 use std::fmt;
 
@@ -21,6 +21,32 @@ pub struct Success {
 pub type Checked = Result<(), Refusal>;
 pub type Rewritten = Result<Success, Refusal>;
 
+/// The three numbers of an answer as C gets them: 0, the first and the second; or a refusal's number,
+/// the position and the detail.
+#[derive(Debug, Clone, Copy, PartialEq, Eq)]
+pub struct Reply {
+    pub number: usize,
+    pub first: usize,
+    pub second: usize,
+}
+
+impl From<Refusal> for Reply {
+    fn from(refusal: Refusal) -> Reply {
+        Reply {
+            number: refusal.number as usize,
+            first: refusal.position as usize,
+            second: refusal.detail as usize,
+        }
+    }
+}
+
+impl fmt::Display for Reply {
+    fn fmt(&self, f: &mut fmt::Formatter) -> fmt::Result {
+        let Reply { number, first, second } = self;
+        write!(f, "number {number}, first {first}, second {second}")
+    }
+}
+
 impl fmt::Display for Refusal {
     fn fmt(&self, f: &mut fmt::Formatter) -> fmt::Result {
         write!(f, "refused {} {} {}", self.number, self.position, self.detail)
@@ -42,7 +68,7 @@ pub fn rewritten_text(answer: &Rewritten) -> String {
     answer.map_or_else(|refusal| refusal.to_string(), |success| success.to_string())
 }
 
-/// The operations that write.
+/// The operations that write an image.
 #[derive(Debug, Clone, Copy, PartialEq, Eq)]
 pub enum Operation {
     /// The default rewrite, the Rust's.
@@ -72,6 +98,8 @@ pub trait Operations: Sync {
     fn crystalfold(&self, image: &[u8], out: &mut [u8]) -> Rewritten;
     fn rewrite(&self, image: &[u8], out: &mut [u8]) -> Rewritten;
     fn fuller(&self, image: &[u8], out: &mut [u8]) -> Rewritten;
+    /// Document 02's pages, which the Rust doesn't have.
+    fn pages(&self, image: &[u8], out: &mut [u8]) -> Reply;
 
     fn run(&self, operation: Operation, image: &[u8], out: &mut [u8]) -> Rewritten {
         match operation {

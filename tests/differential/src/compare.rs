@@ -2,14 +2,15 @@
 //! whoever is under test.
 
 use crate::answers::{
-    checked_text, rewritten_text, Checked, Operation, Operations, Refusal, Rewritten, Success,
-    OPERATIONS, ORIGINALS,
+    checked_text, rewritten_text, Checked, Operation, Operations, Refusal, Reply, Rewritten,
+    Success, OPERATIONS, ORIGINALS,
 };
 use crate::cells;
 use crate::leaves::{self, Const};
 use crate::legacy_lowering::byte;
 use crate::model;
 use crate::original::{self, Answers};
+use crate::pages;
 use crate::table;
 use std::collections::HashMap;
 
@@ -30,6 +31,8 @@ pub struct Expected {
     /// What the fuller rewrite writes by the model, where the image passes the site check: the
     /// original has no fuller rewrite.
     pub(crate) fuller: Option<(Vec<u8>, Success)>,
+    /// Its pages by the model, where it passes the site check: the original has none.
+    pub(crate) pages: Option<Vec<u8>>,
 }
 
 pub(crate) fn difference(
@@ -51,12 +54,21 @@ pub(crate) fn ask_original(image: &[u8]) -> Result<Answers, Difference> {
     })
 }
 
+/// An image can be read from its pages, so that no other has the same.
+fn read_back(image: &[u8], pages: &[u8]) -> Result<(), Difference> {
+    match pages::read(pages) {
+        Some(read) if read == image => Ok(()),
+        Some(read) => difference("Pages read back", hexadecimal(image), hexadecimal(&read)),
+        None => difference("Pages read back", hexadecimal(image), "no pages".into()),
+    }
+}
+
 /// Asks the original and the model, and compares these two.
 pub fn expected(image: &[u8]) -> Result<Expected, Difference> {
     let image_check = model::image_check(image);
     let site_check = model::site_check(image);
     if image_check.is_err() {
-        return Ok(Expected { image_check, site_check, original: None, fuller: None });
+        return Ok(Expected { image_check, site_check, original: None, fuller: None, pages: None });
     }
     let original = ask_original(image)?;
     let fuller = site_check.is_ok().then(|| {
@@ -64,7 +76,8 @@ pub fn expected(image: &[u8]) -> Result<Expected, Difference> {
         let length = bytes.len();
         (bytes, Success { length, num_rewrites, changed: num_rewrites > 0 })
     });
-    let expected = Expected { image_check, site_check, original: Some(original), fuller };
+    let pages = site_check.is_ok().then(|| pages::pages(image));
+    let expected = Expected { image_check, site_check, original: Some(original), fuller, pages };
     let original = expected.original.as_ref().unwrap();
 
     // The original refuses exactly if the site check does, and as it may.
@@ -75,6 +88,9 @@ pub fn expected(image: &[u8]) -> Result<Expected, Difference> {
     }
     if let Some((bytes, success)) = &expected.fuller {
         expected.check_by_the_original(image, image, &Ok(*success), bytes)?;
+    }
+    if let Some(pages) = &expected.pages {
+        read_back(image, pages)?;
     }
     Ok(expected)
 }
@@ -136,7 +152,7 @@ impl Expected {
         difference(what, expected, checked_text(other))
     }
 
-    /// Compares all six operations; `out` is as it was before each.
+    /// Compares all operations but the pages; `out` is as it was before each.
     pub fn check(
         &self,
         subject: &dyn Operations,
@@ -211,6 +227,44 @@ impl Expected {
         (Ok(*success), bytes)
     }
 
+    /// The length of the pages, or for a refused image about what it would have been.
+    pub fn pages_length(&self, image: &[u8]) -> usize {
+        match &self.pages {
+            Some(pages) => pages.len(),
+            None => image.len() / cells::CELL * pages::LINE,
+        }
+    }
+
+    /// The answer for a lent buffer of some length, and what is written.
+    pub fn pages(&self, lent: usize) -> (Reply, &[u8]) {
+        match (&self.pages, self.site_check) {
+            (_, Err(refusal)) => (refusal.into(), &[]),
+            // Where the site check accepts, there are pages.
+            (pages, Ok(())) => match pages.as_ref().unwrap() {
+                pages if lent < pages.len() => (pages::TOO_SHORT, &[]),
+                pages => (pages::written(pages.len()), pages),
+            },
+        }
+    }
+
+    /// Compares the pages. What is lent is what `around` has between its guards; it is as it was
+    /// before the call.
+    pub fn check_pages(
+        &self,
+        subject: &dyn Operations,
+        image: &[u8],
+        around: &[u8],
+    ) -> Result<(), Difference> {
+        let lent = GUARD..around.len() - GUARD;
+        let (expected, pages) = self.pages(lent.len());
+        let mut buffer = around.to_vec();
+        let reply = subject.pages(image, &mut buffer[lent]);
+        if reply != expected {
+            return difference("Pages, answer", expected.to_string(), reply.to_string());
+        }
+        check_lent(pages, around, &buffer)
+    }
+
     /// Holds an answer to the fuller rewrite against the original alone, whatever the commands that
     /// only the fuller one folds give. It refuses as the default does. Its loads in place of such
     /// commands are put into what the original's cleanup writes; what the original's CrystalFold
@@ -256,6 +310,28 @@ impl Expected {
         }
         Ok(())
     }
+}
+
+/// Bytes before and behind a lent buffer that nobody may write.
+pub const GUARD: usize = 16;
+
+/// A lent buffer has the pages at its start, and every other byte is as it was, the guards too.
+pub fn check_lent(pages: &[u8], before: &[u8], after: &[u8]) -> Result<(), Difference> {
+    let end = GUARD + pages.len();
+    if after[GUARD..end] != *pages {
+        let lines = pages.chunks(pages::LINE).zip(after[GUARD..end].chunks(pages::LINE));
+        let (at, (line, got)) = lines.enumerate().find(|(_, (line, got))| line != got).unwrap();
+        let text = |line| format!("line {at} is {:?}", String::from_utf8_lossy(line));
+        return difference("Pages, bytes written", text(line), text(got));
+    }
+    if after[..GUARD] != before[..GUARD] || after[end..] != before[end..] {
+        let others = (0..GUARD).chain(end..before.len());
+        let at = others.into_iter().find(|&at| after[at] != before[at]).unwrap();
+        let place = at as isize - end as isize;
+        let text = |byte| format!("byte {place} past the pages is {byte:02X}");
+        return difference("Pages, other bytes", text(before[at]), text(after[at]));
+    }
+    Ok(())
 }
 
 /// An image that has been cleaned, with the loads that a fuller rewrite has in place of commands

@@ -2,9 +2,10 @@
 
 use crate::answers::{Operation, Operations};
 use crate::cells;
-use crate::compare::{self, hexadecimal, Difference};
-use crate::generate::{self, Exhaustive, Pairs};
+use crate::compare::{hexadecimal, Difference, GUARD};
+use crate::generate::{self, Exhaustive, Pairs, NO_OUTPUT};
 use crate::joined::{self, Part};
+use crate::pages::{self, SHAPES};
 use crate::random::{mix, Random};
 use crate::runs::{self, Outside};
 use crate::shrink::shrink;
@@ -24,6 +25,50 @@ pub struct Count {
     pub differing: u64,
     /// An image counts once for each subject and each length of the lent output.
     pub comparisons: u64,
+    /// An image counts once for each subject and each length of the buffer lent for its pages.
+    pub pages: u64,
+}
+
+/// What occurred in the pages that were compared.
+#[derive(Debug, Default)]
+pub struct Occurred {
+    /// Accepted images with a buffer that was too short.
+    pub too_short: u64,
+    /// The longest pages that an image can have.
+    pub longest: u64,
+    /// Functions of accepted images, by shape.
+    pub shapes: [u64; SHAPES.len()],
+}
+
+impl Occurred {
+    fn count(&mut self, part: &Part) {
+        let Part { image, expected } = part;
+        if !expected.accepted() {
+            return;
+        }
+        self.longest += (expected.pages_length(image) == pages::LONGEST) as u64;
+        for function in cells::functions(image) {
+            for (count, (_, shape)) in self.shapes.iter_mut().zip(SHAPES) {
+                *count += shape(&function) as u64;
+            }
+        }
+    }
+
+    fn add(&mut self, other: &Occurred) {
+        self.too_short += other.too_short;
+        self.longest += other.longest;
+        for (sum, count) in self.shapes.iter_mut().zip(other.shapes) {
+            *sum += count;
+        }
+    }
+}
+
+/// What was lent: an output, or a buffer for the pages; its length, less the image's or the joined
+/// one's, or less the pages'.
+#[derive(Debug, Clone, Copy, PartialEq, Eq)]
+pub enum Lent {
+    Output(isize),
+    Pages(isize),
 }
 
 /// The first difference.
@@ -32,8 +77,7 @@ pub struct Found {
     pub subject: &'static str,
     /// The image, or the two that are joined.
     pub images: Vec<Vec<u8>>,
-    /// The lent output's length, less the image's or the joined one's.
-    pub more: isize,
+    pub lent: Lent,
     pub difference: Difference,
 }
 
@@ -43,6 +87,7 @@ struct Worker<'a> {
     counts: Vec<Count>,
     /// How often each refusal number was the answer.
     refusals: [u64; 27],
+    occurred: Occurred,
     runs: u64,
     entries: u64,
     stop: &'a AtomicBool,
@@ -50,16 +95,17 @@ struct Worker<'a> {
 }
 
 impl Worker<'_> {
-    /// Compares one image, with lent outputs of the given lengths above the image's.
-    fn image(&mut self, group: &'static str, image: &[u8], more: &[isize]) {
-        if let Some(part) = self.ask(group, image) {
-            self.compare(group, &part, &[image], more);
-        }
+    /// Compares one image, with lent outputs of the given lengths above the image's. Gives the
+    /// answers that it must get, unless the original and the model differ.
+    fn image(&mut self, group: &'static str, image: &[u8], more: &[isize]) -> Option<Part> {
+        let part = self.ask(group, image)?;
+        self.compare(group, &part, &[image], more);
+        Some(part)
     }
 
     /// An image with the answers that it must get, unless the original and the model differ.
     fn ask(&mut self, group: &'static str, image: &[u8]) -> Option<Part> {
-        let found = |difference| self.found(group, "original", &[image], 0, difference);
+        let found = |difference| self.found(group, "original", &[image], WHOLE, difference);
         Part::new(image).map_err(found).ok()
     }
 
@@ -71,7 +117,7 @@ impl Worker<'_> {
         let images: [&[u8]; 2] = [&first.image, &second.image];
         match joined::check_original(&part) {
             Ok(()) => self.compare(group, &part, &images, more),
-            Err(difference) => self.found(group, "original", &images, 0, difference),
+            Err(difference) => self.found(group, "original", &images, WHOLE, difference),
         }
     }
 
@@ -83,11 +129,15 @@ impl Worker<'_> {
             let out = dirty(&mut self.random, image.len().saturating_add_signed(more));
             for subject in self.subjects {
                 if let Err(difference) = expected.check(*subject, image, &out) {
-                    return self.found(group, subject.name(), images, more, difference);
+                    let lent = Lent::Output(more);
+                    return self.found(group, subject.name(), images, lent, difference);
                 }
                 comparisons += 1;
             }
         }
+        let buffers = two_buffers(&mut self.random, expected.pages_length(image));
+        self.pages(group, part, images, &buffers);
+        self.occurred.count(part);
         if let Err(refusal) = expected.site_check() {
             self.refusals[refusal.number as usize] += 1;
         }
@@ -98,17 +148,37 @@ impl Worker<'_> {
         count.comparisons += comparisons;
     }
 
+    /// Compares the pages of an image, which is one or two joined, with lent buffers of the given
+    /// lengths above the pages'.
+    fn pages(&mut self, group: &'static str, part: &Part, images: &[&[u8]], more: &[isize]) {
+        let Part { image, expected } = part;
+        for &more in more {
+            let length = expected.pages_length(image).saturating_add_signed(more);
+            let around = dirty(&mut self.random, length + 2 * GUARD);
+            for subject in self.subjects {
+                if let Err(difference) = expected.check_pages(*subject, image, &around) {
+                    let lent = Lent::Pages(more);
+                    return self.found(group, subject.name(), images, lent, difference);
+                }
+            }
+            let too_short = expected.accepted() && length < expected.pages_length(image);
+            self.occurred.too_short += too_short as u64;
+        }
+        let comparisons = (more.len() * self.subjects.len()) as u64;
+        count_of(&mut self.counts, group).pages += comparisons;
+    }
+
     fn found(
         &mut self,
         group: &'static str,
         subject: &'static str,
         images: &[&[u8]],
-        more: isize,
+        lent: Lent,
         difference: Difference,
     ) {
         self.stop.store(true, Ordering::Relaxed);
         let images = images.iter().map(|image| image.to_vec()).collect();
-        let found = Found { group, subject, images, more, difference };
+        let found = Found { group, subject, images, lent, difference };
         self.found.lock().unwrap().get_or_insert(found);
     }
 
@@ -117,13 +187,13 @@ impl Worker<'_> {
     }
 
     /// Runs the functions of an image as sent and as returned by both rewrites.
-    fn run_functions(&mut self, image: &[u8], tries: usize) {
-        match records(image, &mut self.random, tries) {
+    fn run_functions(&mut self, part: &Part, tries: usize) {
+        match records(part, &mut self.random, tries) {
             Ok((runs, entries)) => {
                 self.runs += runs;
                 self.entries += entries;
             }
-            Err(difference) => self.found("runs", RECORDS, &[image], 0, difference),
+            Err(difference) => self.found("runs", RECORDS, &[&part.image], WHOLE, difference),
         }
     }
 
@@ -134,9 +204,9 @@ impl Worker<'_> {
                 return;
             }
             let image = (group.image)(index);
-            self.image(group.name, &image, group.more);
-            if index < group.run {
-                self.run_functions(&image, 1);
+            match self.image(group.name, &image, group.more) {
+                Some(part) if index < group.run => self.run_functions(&part, 1),
+                _ => {}
             }
         }
     }
@@ -197,8 +267,23 @@ impl Worker<'_> {
                     self.joined("cut", first, second, &[0]);
                 }
             }
-            Err(difference) => self.found("cut", "original", &[image], 0, difference),
+            Err(difference) => self.found("cut", "original", &[image], WHOLE, difference),
         }
+    }
+
+    /// The pages of one image in buffers of every length from none to a line more, or of those
+    /// around a line's.
+    fn buffer_lengths(&mut self) {
+        let group = "buffer lengths";
+        let image = generate::any_image(&mut self.random);
+        let Some(part) = self.image(group, &image, &[0]) else {
+            return;
+        };
+        let length = part.expected.pages_length(&image) as isize;
+        let line = pages::LINE as isize;
+        let near = (-length..=line).filter(|more| length <= 8 * line || (more % line).abs() <= 1);
+        let near: Vec<isize> = near.collect();
+        self.pages(group, &part, &[&image], &near);
     }
 
     /// One round over the other random groups.
@@ -213,18 +298,39 @@ impl Worker<'_> {
         }
         for _ in 0..2 {
             let image = generate::any_image(&mut self.random);
-            let lengths: Vec<isize> = (-33..=33).chain([generate::NO_OUTPUT]).collect();
+            let lengths: Vec<isize> = (-33..=33).chain([NO_OUTPUT]).collect();
             self.image("output lengths", &image, &lengths);
         }
+        for _ in 0..3 {
+            let image = generate::paged(&mut self.random);
+            self.image("pages", &image, &[0]);
+        }
+        if self.random.chance(10) {
+            let image = generate::longest_pages(&mut self.random);
+            self.image("longest pages", &image, &[0]);
+        }
+        self.buffer_lengths();
         for _ in 0..60 {
             let image = generate::runnable(&mut self.random);
-            self.image("runs", &image, &[0]);
-            self.run_functions(&image, 4);
+            if let Some(part) = self.image("runs", &image, &[0]) {
+                self.run_functions(&part, 4);
+            }
         }
         let image = generate::limit(&mut self.random);
         let more = self.random.pick(&[-1, 0, 0, 0, 1]);
         self.image("limits", &image, &[more]);
     }
+}
+
+/// An output as long as the image.
+const WHOLE: Lent = Lent::Output(0);
+
+/// Two lengths of a buffer for pages of some length, less that: one in which they fit, most often
+/// just, and one in which they don't, most often by a byte, as far as there is one.
+fn two_buffers(random: &mut Random, length: usize) -> [isize; 2] {
+    let fits = random.pick(&[0, 0, 0, 1, 57, 58, 100]);
+    let shorter = -(random.range(1, length.max(1)) as isize);
+    [fits, random.pick(&[-1, -1, -1, NO_OUTPUT, shorter, shorter])]
 }
 
 /// Stands for the subject where the records of what the original, or the model, returns are at
@@ -234,8 +340,8 @@ const RECORDS: &str = "returned function";
 /// Compares the records of each function as sent and as returned by the default and by
 /// the fuller rewrite, where the premise holds, from several registers and against several
 /// outsides. Gives the number of pairs of runs and of their entries.
-pub fn records(image: &[u8], random: &mut Random, tries: usize) -> Result<(u64, u64), Difference> {
-    let expected = compare::expected(image)?;
+pub fn records(part: &Part, random: &mut Random, tries: usize) -> Result<(u64, u64), Difference> {
+    let Part { image, expected } = part;
     let default = expected.written(Operation::Rewrite);
     let (Some(default), Some(fuller)) = (default, expected.written(Operation::Fuller)) else {
         return Ok((0, 0));
@@ -279,6 +385,7 @@ pub struct Outcome {
     pub counts: Vec<Count>,
     /// How often each refusal number was the answer.
     pub refusals: [u64; 27],
+    pub occurred: Occurred,
     /// Pairs of runs, and the entries of their records.
     pub runs: u64,
     pub entries: u64,
@@ -320,6 +427,7 @@ pub fn compare(
                 random: Random::new(mix(seed ^ mix(index as u64))),
                 counts: Vec::new(),
                 refusals: [0; 27],
+                occurred: Occurred::default(),
                 runs: 0,
                 entries: 0,
                 stop: &stop,
@@ -350,6 +458,7 @@ pub fn compare(
     let mut outcome = Outcome {
         counts: Vec::new(),
         refusals: [0; 27],
+        occurred: Occurred::default(),
         runs: 0,
         entries: 0,
         time: start.elapsed(),
@@ -362,10 +471,12 @@ pub fn compare(
             sum.accepted += count.accepted;
             sum.differing += count.differing;
             sum.comparisons += count.comparisons;
+            sum.pages += count.pages;
         }
         for (sum, count) in outcome.refusals.iter_mut().zip(worker.refusals) {
             *sum += count;
         }
+        outcome.occurred.add(&worker.occurred);
         outcome.runs += worker.runs;
         outcome.entries += worker.entries;
     }
@@ -427,7 +538,7 @@ fn shown(subjects: &Subjects, found: &Found, images: &[Vec<u8>]) -> Option<Diffe
         Err(difference) => return Some(difference),
     };
     if found.subject == RECORDS {
-        return records(&images[0], &mut Random::new(0), 200).err();
+        return records(&parts[0], &mut Random::new(0), 200).err();
     }
     let part = match &parts[..] {
         [first, second] => {
@@ -440,6 +551,17 @@ fn shown(subjects: &Subjects, found: &Found, images: &[Vec<u8>]) -> Option<Diffe
         _ => parts.pop()?,
     };
     let subject = subjects.iter().find(|subject| subject.name() == found.subject)?;
-    let out = dirty(&mut Random::new(0), part.image.len().saturating_add_signed(found.more));
-    part.expected.check(*subject, &part.image, &out).err()
+    let Part { image, expected } = &part;
+    let random = &mut Random::new(0);
+    let differs = match found.lent {
+        Lent::Output(more) => {
+            let out = dirty(random, image.len().saturating_add_signed(more));
+            expected.check(*subject, image, &out)
+        }
+        Lent::Pages(more) => {
+            let length = expected.pages_length(image).saturating_add_signed(more);
+            expected.check_pages(*subject, image, &dirty(random, length + 2 * GUARD))
+        }
+    };
+    differs.err()
 }

@@ -6,6 +6,7 @@ use crate::cells::{self, Cell, CELL, MAX_EVENTS, MAX_IMAGE, MAX_INSTRS, REGISTER
 use crate::codec::Form;
 use crate::leaves::{self, Const};
 use crate::legacy_lowering::{byte, COMMANDS};
+use crate::pages::PAGE;
 use crate::random::Random;
 use crate::runs::{any_const, edges, kind_of};
 use crate::table;
@@ -125,6 +126,8 @@ pub const NO_OUTPUT: isize = -(1 << 20);
 pub fn exhaustive() -> Vec<Exhaustive> {
     vec![
         every_length(),
+        every_refusal(),
+        page_ends(),
         registers(),
         short_divisions(),
         short_quads(),
@@ -159,6 +162,90 @@ pub fn every_length() -> Exhaustive {
             image
         }),
     }
+}
+
+/// An image for each number with which it is refused, alone and behind a good function.
+fn every_refusal() -> Exhaustive {
+    let images = one_a_refusal();
+    let good = one_function(&[ret(None)], &[]);
+    Exhaustive {
+        name: "every refusal",
+        run: 0,
+        more: &[NO_OUTPUT, -1, 0, 1],
+        count: 2 * images.len(),
+        image: Box::new(move |index| match index.checked_sub(images.len()) {
+            None => images[index].clone(),
+            Some(index) => [&good[..], &images[index]].concat(),
+        }),
+    }
+}
+
+/// Functions of as many cells as a page ends with, up to eleven pages, and of none: instructions
+/// alone, events alone, or some of both; names of one to five digits; alone, twice, or with a
+/// function without cells before or behind.
+fn page_ends() -> Exhaustive {
+    let about = |pages: usize| PAGE * pages - 2..=PAGE * pages + 2;
+    let sizes: Vec<usize> = (0..=2).chain([1, 2, 3, 10].into_iter().flat_map(about)).collect();
+    let splits: [fn(usize) -> usize; 6] = [
+        |cells| cells,
+        |_| 0,
+        |cells| cells.min(1),
+        |cells| cells.saturating_sub(1),
+        |cells| cells / 2,
+        |cells| cells.min(PAGE),
+    ];
+    let names = [0, 7, 10, 99, 100, 999, 1000, 9999, 10000, 32768, 65535];
+    let arrangements = 4;
+    Exhaustive {
+        name: "page ends",
+        more: &[0],
+        run: 0,
+        count: sizes.len() * splits.len() * names.len() * arrangements,
+        image: Box::new(move |index| {
+            let (name, rest) = (names[index % names.len()], index / names.len());
+            let (arrangement, rest) = (rest % arrangements, rest / arrangements);
+            let (split, cells) = (splits[rest % splits.len()], sizes[rest / splits.len()]);
+            let instrs = split(cells);
+            let (instrs, events) = listed_function(index, instrs, cells - instrs);
+            let mut image = Vec::new();
+            let mut push = |name, instrs: &[Cell], events: &[Cell]| {
+                cells::push_function(&mut image, name, instrs, events);
+            };
+            if arrangement == 1 {
+                push(name ^ 1, &[], &[]);
+            }
+            push(name, &instrs, &events);
+            match arrangement {
+                2 => push(name ^ 1, &[], &[]),
+                3 => push(name ^ 1, &instrs, &events),
+                _ => {}
+            }
+            image
+        }),
+    }
+}
+
+/// A function of so many instructions, all commands in turn, and so many events, of both kinds if
+/// there is an instruction.
+fn listed_function(first: usize, instrs: usize, events: usize) -> (Vec<Cell>, Vec<Cell>) {
+    let site = first as u32;
+    let mut commands: Vec<Cell> = (first..first + instrs)
+        .map(|at| {
+            let command = COMMANDS[at % COMMANDS.len()].byte;
+            let sites = [byte::StoreVar, byte::MakeRecord].contains(&command);
+            filled(command, !sites, (at % REGISTERS) as u16)
+        })
+        .collect();
+    let writes = instrs > 0 && events > 0;
+    if writes {
+        commands[0] = make_record(1, Some(site));
+    }
+    let events = (0..events).map(|at| {
+        let mut event = if writes && at % 3 == 0 { write(site) } else { borrow(None) };
+        event[11..15].copy_from_slice(&(0x9E37_79B9_u32.wrapping_mul(at as u32)).to_le_bytes());
+        event
+    });
+    (commands, events.collect())
 }
 
 /// The longest of the short lists, in cells.
@@ -1354,6 +1441,87 @@ fn pair_of(random: &mut Random, cells: usize, instrs: usize, events: usize) -> [
         }
         let instrs = random.below(left.min(MAX_INSTRS + 1));
         second.extend(filled_function(random, instrs, Some(0)));
+    }
+}
+
+// ---- Images to be laid out in pages ----
+
+/// One to three functions with good sites, of as many cells as a page ends with, or a few more or
+/// less; or without cells.
+pub fn paged(random: &mut Random) -> Vec<u8> {
+    let mut image = Vec::new();
+    for _ in 0..random.range(1, 3) {
+        let pages = random.pick(&[0, 1, 1, 1, 2, 2, 3, 6]);
+        let cells = (PAGE * pages + random.pick(&[0, 0, 1, 1, 2, 3])).saturating_sub(1);
+        let share = random.below(cells + 1);
+        let instrs = random.pick(&[cells, share, share, cells.min(PAGE), 0]);
+        let name = random.bits() as u16 >> random.pick(&[0, 0, 4, 8, 12]);
+        push_good_function(random, &mut image, name, instrs, cells - instrs);
+    }
+    image
+}
+
+/// An image of 65,536 bytes with the longest pages: as many functions as leave room for 83 pages
+/// that aren't the first of their function.
+pub fn longest_pages(random: &mut Random) -> Vec<u8> {
+    let further = 83;
+    let functions = random.pick(&[2, 2, 3, 4, 7, 13, 14]);
+    // Each page but a function's last is full; on that stands one cell, and some more on a few.
+    let mut left = MAX_IMAGE / CELL - 2 * functions - PAGE * further;
+    let mut sizes = vec![1; functions];
+    for _ in 0..further {
+        let at = random.below(functions);
+        // No function has more than 3,072 cells.
+        let at = if sizes[at] > PAGE * 60 { (at + 1) % functions } else { at };
+        sizes[at] += PAGE;
+    }
+    while left > 0 {
+        let more = random.range(1, left);
+        sizes[random.below(functions)] += more;
+        left -= more;
+    }
+    let mut image = Vec::new();
+    for cells in sizes {
+        let least = cells.saturating_sub(MAX_EVENTS);
+        let instrs = random.range(least, cells.min(MAX_INSTRS));
+        let name = random.bits() as u16;
+        push_good_function(random, &mut image, name, instrs, cells - instrs);
+    }
+    image
+}
+
+/// Adds a function of so many instructions and so many events; no site if there are more sites than
+/// these have events for.
+fn push_good_function(
+    random: &mut Random,
+    image: &mut Vec<u8>,
+    name: u16,
+    instrs: usize,
+    events: usize,
+) {
+    let sites = if events == 0 { 0 } else { random.pick(&[0, 5, 30]) };
+    let shape = Shape { instrs, sites, control: 10, actions: 50, misfits: 15, one_place: false };
+    let often = any_often(random);
+    let (mut cells, mut made) = any_function_with(random, shape, often);
+    let places = [cells::EVENT_ACTIVATION_SITE, cells::EVENT_WRITE_SITE];
+    made.retain(|event| places.iter().any(|&place| cells::site(event, place).is_some()));
+    if made.len() > events {
+        cells.iter_mut().for_each(without_sites);
+        made.clear();
+    }
+    while made.len() < events {
+        let mut event = borrow(None);
+        event[11..15].copy_from_slice(&(random.bits() as u32).to_le_bytes());
+        made.push(event);
+    }
+    random.shuffle(&mut made);
+    cells::push_function(image, name, &cells, &made);
+}
+
+fn without_sites(cell: &mut Cell) {
+    let layout = table::layout(cell[0]).unwrap();
+    for place in [layout.activation_site, layout.write_site].into_iter().flatten() {
+        put_site(cell, place, None);
     }
 }
 

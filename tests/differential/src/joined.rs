@@ -26,8 +26,13 @@ pub fn joined(first: &Part, second: &Part) -> Option<Part> {
     let image = [&first.image[..], &second.image].concat();
     if image.len() > MAX_IMAGE {
         let refused = Err(Refusal { number: 1, position: 0, detail: 0 });
-        let expected =
-            Expected { image_check: refused, site_check: refused, original: None, fuller: None };
+        let expected = Expected {
+            image_check: refused,
+            site_check: refused,
+            original: None,
+            fuller: None,
+            pages: None,
+        };
         return Some(Part { image, expected });
     }
     let (one, two) = (&first.expected, &second.expected);
@@ -43,6 +48,8 @@ pub fn joined(first: &Part, second: &Part) -> Option<Part> {
         site_check: image_check.and_then(|()| behind.sites(one.site_check, two.site_check)),
         original: both(&one.original, &two.original).map(|(one, two)| behind.answers(one, two)),
         fuller: both(&one.fuller, &two.fuller).map(|(one, two)| written(one, two)),
+        // Each function begins a page numbered 001.
+        pages: both(&one.pages, &two.pages).map(|(one, two)| [&one[..], two].concat()),
     };
     Some(Part { image, expected })
 }

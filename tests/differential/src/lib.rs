@@ -14,6 +14,7 @@ pub mod legacy_lowering;
 pub mod library;
 pub mod model;
 pub mod original;
+pub mod pages;
 pub mod program;
 pub mod random;
 pub mod runs;

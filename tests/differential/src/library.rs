@@ -6,12 +6,12 @@ pub use linked::Library;
 
 #[cfg(feature = "library")]
 mod linked {
-    use crate::answers::{Checked, Operations, Refusal, Rewritten, Success};
+    use crate::answers::{Checked, Operations, Refusal, Reply, Rewritten, Success};
 
     /// Image and length, and the references to position and detail.
     type Check = unsafe extern "C" fn(*const u8, usize, *mut usize, *mut usize) -> usize;
     /// Image, output, their lengths, and the references to the two numbers.
-    type Rewrite =
+    type Write =
         unsafe extern "C" fn(*const u8, usize, *mut u8, usize, *mut usize, *mut usize) -> usize;
 
     extern "C" {
@@ -59,6 +59,14 @@ mod linked {
             first: *mut usize,
             second: *mut usize,
         ) -> usize;
+        fn matchdesk_pages(
+            image: *const u8,
+            image_length: usize,
+            out: *mut u8,
+            out_length: usize,
+            first: *mut usize,
+            second: *mut usize,
+        ) -> usize;
     }
 
     /// What stands behind the references before a call: no answer has it.
@@ -82,7 +90,7 @@ mod linked {
         Ok(())
     }
 
-    fn answer(operation: Rewrite, image: &[u8], out: &mut [u8]) -> Rewritten {
+    fn reply(operation: Write, image: &[u8], out: &mut [u8]) -> Reply {
         let (mut first, mut second) = (UNSET, UNSET);
         let number = unsafe {
             operation(
@@ -94,6 +102,11 @@ mod linked {
                 &mut second,
             )
         };
+        Reply { number, first, second }
+    }
+
+    fn answer(operation: Write, image: &[u8], out: &mut [u8]) -> Rewritten {
+        let Reply { number, first, second } = reply(operation, image, out);
         if number != 0 {
             return Err(refusal(number, first, second));
         }
@@ -127,6 +140,9 @@ mod linked {
         }
         fn fuller(&self, image: &[u8], out: &mut [u8]) -> Rewritten {
             answer(matchdesk_rewrite_fuller, image, out)
+        }
+        fn pages(&self, image: &[u8], out: &mut [u8]) -> Reply {
+            reply(matchdesk_pages, image, out)
         }
     }
 }

@@ -3,8 +3,9 @@
 
 use differential::answers::{Operation, Operations};
 use differential::compare::{self, hexadecimal};
-use differential::driver::{self, Count, Found, Groups, Outcome};
+use differential::driver::{self, Count, Found, Groups, Lent, Occurred, Outcome};
 use differential::model::Model;
+use differential::pages::SHAPES;
 use differential::program::{self, Program};
 use differential::random::{mix, Random};
 use differential::runs::{self, Outside};
@@ -26,7 +27,7 @@ const USAGE: &str = "\
 usage: [--seed N] [--seconds N] [--threads N]
        [--seed N] --sample FILE
        --replay FILE
-       [--seed N] [--seconds N] --program FILE [--word rewrite|fuller]";
+       [--seed N] [--seconds N] --program FILE [--word rewrite|fuller|pages]";
 
 fn options() -> Result<Options, String> {
     let now = SystemTime::now().duration_since(UNIX_EPOCH).unwrap_or_default();
@@ -148,11 +149,12 @@ fn compare(options: &Options) -> Result<String, String> {
         let names: Vec<&str> = subjects.iter().map(|subject| subject.name()).collect();
         return Ok(format!(
             "no difference between the original and: {}\n\
-             the fuller rewrite: by the model, and by the original as far as it decides",
+             the fuller rewrite: by the model, and by the original as far as it decides\n\
+             the pages: by the model",
             names.join(", ")
         ));
     };
-    let Found { group, subject, images, more, difference } = found;
+    let Found { group, subject, images, lent, difference } = found;
     println!("DIFFERENCE: {}; group {group}, seed {}", difference.what, options.seed);
     if let [_, _] = images[..] {
         println!("two images, joined in this order");
@@ -161,7 +163,10 @@ fn compare(options: &Options) -> Result<String, String> {
         println!("image, {} bytes", image.len());
         println!("{}", hexadecimal(image));
     }
-    println!("lent output longer by {more}");
+    match lent {
+        Lent::Output(more) => println!("lent output longer than the image by {more}"),
+        Lent::Pages(more) => println!("lent buffer longer than the pages by {more}"),
+    }
     println!("expected: {}", difference.expected);
     Err(format!("{subject}: {}", difference.got))
 }
@@ -169,18 +174,24 @@ fn compare(options: &Options) -> Result<String, String> {
 fn report(outcome: &Outcome) {
     let mut total = Count { name: "all", ..Count::default() };
     // Differing: where the fuller rewrite writes other cells than the default one.
-    let [images, accepted, differing, comparisons] =
-        ["images", "accepted", "differing", "comparisons"];
-    println!("{:20} {images:>12} {accepted:>12} {differing:>12} {comparisons:>12}", "group");
+    let [images, accepted, differing, comparisons, pages] =
+        ["images", "accepted", "differing", "comparisons", "pages"];
+    println!(
+        "{:20} {images:>12} {accepted:>12} {differing:>12} {comparisons:>12} {pages:>12}",
+        "group"
+    );
     let line = |count: &Count| {
-        let Count { name, images, accepted, differing, comparisons } = count;
-        println!("{name:20} {images:>12} {accepted:>12} {differing:>12} {comparisons:>12}");
+        let Count { name, images, accepted, differing, comparisons, pages } = count;
+        println!(
+            "{name:20} {images:>12} {accepted:>12} {differing:>12} {comparisons:>12} {pages:>12}"
+        );
     };
     for count in &outcome.counts {
         total.images += count.images;
         total.accepted += count.accepted;
         total.differing += count.differing;
         total.comparisons += count.comparisons;
+        total.pages += count.pages;
         line(count);
     }
     line(&total);
@@ -188,6 +199,11 @@ fn report(outcome: &Outcome) {
     let refusals: Vec<String> =
         refusals.map(|(number, count)| format!("{number}: {count}")).collect();
     println!("refusals by number  {}", refusals.join(", "));
+    let Occurred { too_short, longest, shapes } = &outcome.occurred;
+    println!("pages in a buffer too short (30) {too_short}, longest pages {longest}");
+    let shapes: Vec<String> =
+        SHAPES.iter().zip(shapes).map(|((name, _), count)| format!("{name}: {count}")).collect();
+    println!("functions on pages  {}", shapes.join(", "));
     println!("pairs of runs {}, entries of their records {}", outcome.runs, outcome.entries);
     let seconds = outcome.time.as_secs_f64();
     println!("{seconds:.1} s, {:.0} images a second", total.images as f64 / seconds);

@@ -1,11 +1,12 @@
 //! Document 01's answers and document 02's fuller rewrite, written from the documents on cells
-//! and bytes.
+//! and bytes. Document 02's pages are in `pages.rs`.
 
-use crate::answers::{Checked, Operation, Operations, Refusal, Rewritten, Success};
+use crate::answers::{Checked, Operation, Operations, Refusal, Reply, Rewritten, Success};
 use crate::cells::{self, Cell, Function};
 use crate::codec::Form;
 use crate::leaves::{self, Computed, Const};
 use crate::legacy_lowering::byte;
+use crate::pages;
 use crate::table;
 use std::collections::{HashMap, HashSet};
 
@@ -32,6 +33,9 @@ impl Operations for Model {
     }
     fn fuller(&self, image: &[u8], out: &mut [u8]) -> Rewritten {
         run(Operation::Fuller, image, out)
+    }
+    fn pages(&self, image: &[u8], out: &mut [u8]) -> Reply {
+        pages::answer(image, out)
     }
 }
 

@@ -2,7 +2,7 @@
 
 use crate::answers::Operation;
 use crate::cells::MAX_IMAGE;
-use crate::compare::{self, hexadecimal};
+use crate::compare::{self, hexadecimal, Expected};
 use crate::generate;
 use crate::random::Random;
 use crate::shrink::shrink;
@@ -15,30 +15,60 @@ use std::time::{Duration, Instant};
 pub struct Program<'a> {
     file: &'a str,
     word: Option<&'a str>,
-    operation: Operation,
+    text: Text,
+}
+
+/// What a program writes.
+#[derive(Debug, Clone, Copy)]
+pub enum Text {
+    Rewritten(Operation),
+    Pages,
+}
+
+impl From<Operation> for Text {
+    fn from(operation: Operation) -> Text {
+        Text::Rewritten(operation)
+    }
 }
 
 impl<'a> Program<'a> {
     pub fn new(file: &'a str, word: Option<&'a str>) -> Result<Program<'a>, String> {
-        let operation = match word {
-            None | Some("rewrite") => Operation::Rewrite,
-            Some("fuller") => Operation::Fuller,
+        let text = match word {
+            None | Some("rewrite") => Text::Rewritten(Operation::Rewrite),
+            Some("fuller") => Text::Rewritten(Operation::Fuller),
+            Some("pages") => Text::Pages,
             Some(word) => return Err(format!("no text is known for the word {word}")),
         };
-        Ok(Program { file, word, operation })
+        Ok(Program { file, word, text })
     }
 }
 
-/// What the program must write for an image.
-pub fn text(operation: Operation, image: &[u8]) -> Result<String, String> {
+/// What a program must write for an image.
+pub fn text(text: impl Into<Text>, image: &[u8]) -> Result<String, String> {
     let expected = compare::expected(image).map_err(|difference| difference.what)?;
+    match text.into() {
+        Text::Rewritten(operation) => Ok(rewritten_text(&expected, operation, image)),
+        Text::Pages => pages_text(&expected, image),
+    }
+}
+
+/// The pages themselves, or the refusal; the buffer is never too short.
+fn pages_text(expected: &Expected, image: &[u8]) -> Result<String, String> {
+    if let Err(refusal) = expected.site_check() {
+        return Ok(format!("{refusal}\n"));
+    }
+    let (_, pages) = expected.pages(expected.pages_length(image));
+    String::from_utf8(pages.to_vec()).map_err(|error| error.to_string())
+}
+
+fn rewritten_text(expected: &Expected, operation: Operation, image: &[u8]) -> String {
     let out = vec![0; image.len()];
     let (answer, written) = expected.operation(operation, image, &out);
-    Ok(match answer {
+    match answer {
         Err(refusal) => format!("{refusal}\n"),
         Ok(success) if written.is_empty() => format!("rewrites {}\n", success.num_rewrites),
         Ok(success) => format!("{}\nrewrites {}\n", hexadecimal(written), success.num_rewrites),
-    })
+    }
 }
 
 /// Runs the program on images of all groups and on bytes that are none.
@@ -56,12 +86,12 @@ pub fn compare(program: Program, seed: u64, seconds: u64) -> Result<String, Stri
         check(program, &input(&mut random))?;
         inputs += 1;
     }
-    let Program { file, operation, .. } = program;
-    Ok(format!("{file}: {inputs} inputs, each with the text of {operation:?} that it must have"))
+    let Program { file, text, .. } = program;
+    Ok(format!("{file}: {inputs} inputs, each with the text of {text:?} that it must have"))
 }
 
 fn input(random: &mut Random) -> Vec<u8> {
-    match random.below(40) {
+    match random.below(44) {
         0..=14 => generate::any_image(random),
         15..=26 => generate::damaged(random),
         27..=32 => {
@@ -74,13 +104,15 @@ fn input(random: &mut Random) -> Vec<u8> {
             (0..length).map(|_| random.bits() as u8).collect()
         }
         37..=38 => generate::limit(random),
+        39..=41 => generate::paged(random),
+        42 => generate::longest_pages(random),
         // Much more than an image may have.
         _ => vec![random.pick(&[0, 0xF0, 0x2B]); MAX_IMAGE + random.below(1 << 20)],
     }
 }
 
 fn check(program: Program, image: &[u8]) -> Result<(), String> {
-    let differs = |image: &[u8]| match text(program.operation, image) {
+    let differs = |image: &[u8]| match text(program.text, image) {
         Ok(expected) => run(program, image) != Ok(expected),
         Err(_) => true,
     };
@@ -93,7 +125,7 @@ fn check(program: Program, image: &[u8]) -> Result<(), String> {
         program.file,
         image.len(),
         hexadecimal(&image),
-        text(program.operation, &image),
+        text(program.text, &image),
         run(program, &image),
     ))
 }

@@ -6,6 +6,7 @@ use differential::cells::{self, Cell};
 use differential::compare;
 use differential::driver::records;
 use differential::generate::{computed, load_i32, one_function, ret, store_var};
+use differential::joined::Part;
 use differential::leaves::{self, Const};
 use differential::legacy_lowering::byte;
 use differential::program;
@@ -139,7 +140,7 @@ fn both_rewrites_keep_the_records() {
             assert!(claims(&sent, &returned, &registers(), OUTSIDE, 40).is_ok());
         }
         let image = one_function(&sent, &[]);
-        assert_eq!(records(&image, &mut Random::new(1), 3).unwrap().0, 6);
+        assert_eq!(records(&Part::new(&image).unwrap(), &mut Random::new(1), 3).unwrap().0, 6);
     }
 }
 

@@ -1,7 +1,7 @@
 //! Shows that the harness finds what it is there to find.
 
 use differential::answers::{
-    Checked, Operation, Operations, Refusal, Rewritten, Success, ORIGINALS,
+    Checked, Operation, Operations, Refusal, Reply, Rewritten, Success, ORIGINALS,
 };
 use differential::cells::{self, CELL};
 use differential::codec::{Form, Operand};
@@ -464,6 +464,9 @@ impl Operations for Wrong {
             }
         }
         answer
+    }
+    fn pages(&self, image: &[u8], out: &mut [u8]) -> Reply {
+        Model.pages(image, out)
     }
     fn cleanup(&self, image: &[u8], out: &mut [u8]) -> Rewritten {
         Model.cleanup(&self.taken(image), out)

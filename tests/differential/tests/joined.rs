@@ -1,7 +1,7 @@
 //! Shows that the groups of joined images alone find programs in which one function leans on another
 //! (document 02, W12).
 
-use differential::answers::{Checked, Operation, Operations, Refusal, Rewritten, Success};
+use differential::answers::{Checked, Operation, Operations, Refusal, Reply, Rewritten, Success};
 use differential::cells::{self, Cell, Function, CELL, MAX_EVENTS, MAX_IMAGE, MAX_INSTRS};
 use differential::driver::{self, Groups};
 use differential::generate::{
@@ -404,6 +404,9 @@ impl Operations for Wrong {
             }
         }
         answer.map_err(|refusal| refused(fault, image, refusal))
+    }
+    fn pages(&self, image: &[u8], out: &mut [u8]) -> Reply {
+        Model.pages(image, out)
     }
     fn cleanup(&self, image: &[u8], out: &mut [u8]) -> Rewritten {
         self.answer(Cleanup, image, out)

@@ -5,6 +5,7 @@ use differential::driver::records;
 use differential::generate::{
     computed, jmp, jmp_if, label, load_i32, one_function, ret, store_var,
 };
+use differential::joined::Part;
 use differential::leaves::{self, Const};
 use differential::legacy_lowering::byte;
 use differential::random::Random;
@@ -216,7 +217,7 @@ fn both_rewrites_are_run() {
     ];
     for (instrs, pairs) in rows {
         let image = one_function(&instrs, &[]);
-        let (runs, _) = records(&image, &mut Random::new(1), 3).unwrap();
+        let (runs, _) = records(&Part::new(&image).unwrap(), &mut Random::new(1), 3).unwrap();
         assert_eq!(runs, pairs, "{instrs:02X?}");
     }
 }
