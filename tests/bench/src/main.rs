@@ -1,5 +1,5 @@
 //! Times the original's `run_default_opt_passes` and, with the feature `library`,
-//! the proved rewrites on the same images, in one process.
+//! the proved rewrites and pages on the same images, in one process.
 
 mod images;
 #[cfg(feature = "library")]
@@ -59,13 +59,22 @@ fn main() {
 
     let ours = if cfg!(feature = "library") { "ours" } else { "(no library)" };
     println!(
-        "{:24} {:>6} {:>9} {:>12} {:>12} {:>12} {:>9} {:>10} {:>12}",
-        "image", "cells", "rewrites", "passes", "with codec", ours, "ratio", "with codec", "fuller"
+        "{:24} {:>6} {:>9} {:>12} {:>12} {:>12} {:>9} {:>10} {:>12} {:>12}",
+        "image",
+        "cells",
+        "rewrites",
+        "passes",
+        "with codec",
+        ours,
+        "ratio",
+        "with codec",
+        "fuller",
+        "pages"
     );
     for (name, image) in images::rows() {
         row(time, name, &image);
     }
-    println!("ratio: our time divided by the original's, without and with decoding and encoding; `fuller` is the time of the fuller rewrite");
+    println!("ratio: our time divided by the original's, without and with decoding and encoding; `fuller` is the time of the fuller rewrite, `pages` that of the pages");
 }
 
 /// Image and output shouldn't start at the same place of a page: writes then look to the
@@ -97,17 +106,19 @@ fn row(time: Duration, name: &str, image: &[u8]) {
     );
     let ours = measure_ours(time, Operation::Rewrite, image);
     let fuller = measure_ours(time, Operation::Fuller, image);
+    let pages = measure_pages(time, image);
 
     let cells = image.len() / CELL;
     let text = |number: Option<f64>| number.map_or("-".into(), |number| format!("{number:.2}"));
     let time = |time: Option<u128>| time.map_or("-".into(), |time| time.to_string());
     println!(
-        "{name:24} {cells:>6} {:>9} {passes:>12} {with_codec:>12} {:>12} {:>9} {:>10} {:>12}",
+        "{name:24} {cells:>6} {:>9} {passes:>12} {with_codec:>12} {:>12} {:>9} {:>10} {:>12} {:>12}",
         report.num_rewrites,
         time(ours),
         text(ours.map(|ours| ours as f64 / passes as f64)),
         text(ours.map(|ours| ours as f64 / with_codec as f64)),
         time(fuller),
+        time(pages),
     );
 }
 
@@ -130,6 +141,30 @@ fn measure_ours(time: Duration, operation: Operation, image: &[u8]) -> Option<u1
 
 #[cfg(not(feature = "library"))]
 fn measure_ours(_: Duration, _: Operation, _: &[u8]) -> Option<u128> {
+    None
+}
+
+/// The pages, in a buffer in which those of every image fit.
+#[cfg(feature = "library")]
+fn measure_pages(time: Duration, image: &[u8]) -> Option<u128> {
+    use differential::answers::Operations;
+    use differential::library::Library;
+    use differential::pages::LONGEST;
+    let mut out = output(LONGEST);
+    let out = &mut out[APART..];
+    Some(measure(
+        time,
+        || (),
+        |()| {
+            let reply = Library.pages(black_box(image), out);
+            black_box(&mut *out);
+            assert_eq!(reply.number, 0);
+        },
+    ))
+}
+
+#[cfg(not(feature = "library"))]
+fn measure_pages(_: Duration, _: &[u8]) -> Option<u128> {
     None
 }
 
