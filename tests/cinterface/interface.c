@@ -255,6 +255,63 @@ static const struct fuller {
     {"F0070003 290100000000000000F03F 2B0200 25030001000200", UNCHANGED},
 };
 
+/* Pages, document 02's W1: an image and its lines, without their line feeds. */
+static const struct paged {
+    const char *image, *lines[5];
+} paged[] = {
+    {"", {NULL}},
+    {"F0070003 2B010005 13020001000100 0C010200",
+     {"function 00007 page 001                                  ",
+      "    0  LoadI32             010005000000000000000000000000",
+      "    1  AddI32              020001000100000000000000000000",
+      "    2  Ret                 010200000000000000000000000000"}},
+    {"F0FFFF", {"function 65535 page 001                                  "}},
+    {"F0000001000100 4D0500FF0301EFCDAB89 0001EFCDAB89 F0",
+     {"function 00000 page 001                                  ",
+      "    0  StoreVar            0500FF0301EFCDAB89000000000000",
+      "    1  Borrow              01EFCDAB8900000000000000000000",
+      "function 00000 page 001                                  "}},
+    {"F0010001000200 320000000000000105 0100000000000105 010000000000010500000009",
+     {"function 00001 page 001                                  ",
+      "    0  MakeRecord          000000000000010500000000000000",
+      "    1  Write               000000000001050000000000000000",
+      "    2  Write               000000000001050000000900000000"}},
+};
+
+/* An image whose pages are long: how many lines, and some of them by their place. */
+static const struct long_pages {
+    const char *image;
+    size_t lines;
+    struct {
+        size_t at;
+        const char *line;
+    } shown[5];
+} long_pages[] = {
+    {"F0070031 49*0A0100", 50, {{0, "function 00007 page 001                                  "}, {49, "   48  Label               010000000000000000000000000000"}}},
+    {"F0070032 50*0A0100", 52,
+     {{49, "   48  Label               010000000000000000000000000000"},
+      {50, "function 00007 page 002                                  "},
+      {51, "   49  Label               010000000000000000000000000000"}}},
+    {"F0070062 98*0A0100", 100, {{50, "function 00007 page 002                                  "}, {99, "   97  Label               010000000000000000000000000000"}}},
+    {"F0070063 99*0A0100", 102,
+     {{100, "function 00007 page 003                                  "}, {101, "   98  Label               010000000000000000000000000000"}}},
+    {"F0070030000300 48*0A0100 3*00", 53,
+     {{49, "   48  Borrow              000000000000000000000000000000"},
+      {50, "function 00007 page 002                                  "},
+      {51, "   49  Borrow              000000000000000000000000000000"}}},
+    {"F0FFFF00080004 2048*0A0100 1024*00", 3135,
+     {{3100, "function 65535 page 063                                  "},
+      {3101, " 3038  Borrow              000000000000000000000000000000"},
+      {3134, " 3071  Borrow              000000000000000000000000000000"}}},
+    /* the longest pages */
+    {"F001000008DF03 2048*0A0100 991*00 F002001F04 1055*0A0200", 4179,
+     {{3100, "function 00001 page 063                                  "},
+      {3101, " 3038  Borrow              000000000000000000000000000000"},
+      {3102, "function 00002 page 001                                  "},
+      {4178, " 1054  Label               020000000000000000000000000000"}}},
+    {"4096*F00700", 4096, {{4095, "function 00007 page 001                                  "}}},
+};
+
 typedef size_t check(const unsigned char *, size_t, size_t *, size_t *);
 typedef size_t operation(const unsigned char *, size_t, unsigned char *, size_t, size_t *, size_t *);
 
@@ -263,8 +320,8 @@ typedef size_t operation(const unsigned char *, size_t, unsigned char *, size_t,
 /* Bytes on either side of what is lent. */
 #define MARGIN 64
 
-static unsigned char image[LONGEST], sent[LONGEST], expected[LONGEST];
-static unsigned char memory[MARGIN + LONGEST + MATCHDESK_CELL + MARGIN];
+static unsigned char image[LONGEST], sent[LONGEST], expected[MATCHDESK_MAX_PAGES];
+static unsigned char memory[MARGIN + MATCHDESK_MAX_PAGES + MATCHDESK_PAGE_LINE + MARGIN];
 static unsigned calls, wrong;
 
 /* Two marks for a byte, so that no byte that is written can pass for one that was kept. */
@@ -321,13 +378,15 @@ static void try_output(const char *function, operation *call, const char *text, 
                        const unsigned char *written, size_t bytes)
 {
     for (int turn = 0; turn < 2; turn++) {
-        for (size_t i = 0; i < sizeof memory; i++)
+        /* what is lent, or could be lent to a rewrite, and some bytes more on either side */
+        size_t end = MARGIN + (lent > LONGEST + MATCHDESK_CELL ? lent : LONGEST + MATCHDESK_CELL) + MARGIN;
+        for (size_t i = 0; i < end; i++)
             memory[i] = mark(i, turn);
         struct answer got = {0, UNSET, UNSET};
         got.number = call(image, length, memory + MARGIN, lent, &got.first, &got.second);
         compare(function, text, want, got);
         image_kept(function, text);
-        for (size_t i = 0; i < sizeof memory; i++) {
+        for (size_t i = 0; i < end; i++) {
             int inside = i >= MARGIN && i - MARGIN < bytes;
             if (memory[i] != (inside ? written[i - MARGIN] : mark(i, turn))) {
                 complain(function, text, inside ? "wrong output" : "a byte that should stay was changed", i - MARGIN);
@@ -360,6 +419,56 @@ static void try_refused(const char *function, operation *call, const char *text,
     try_lengths(function, call, text, send(text), want, 0);
 }
 
+/* The pages' bytes, with a line feed behind each line. */
+static size_t lines(const char *const *line, size_t most, unsigned char *to)
+{
+    size_t length = 0;
+    for (size_t i = 0; i < most && line[i] != NULL; i++) {
+        memcpy(to + length, line[i], MATCHDESK_PAGE_LINE - 1);
+        length += MATCHDESK_PAGE_LINE;
+        to[length - 1] = '\n';
+    }
+    return length;
+}
+
+/* In a buffer exactly as long as the pages, a byte and a line longer; and in one a byte shorter, one as long as the image, and none, which refuse 30. */
+static void try_pages(const char *text, const unsigned char *pages, size_t bytes)
+{
+    struct answer want = {0, bytes, 0}, shorter = {30, 0, 0};
+    size_t length = send(text);
+    try_output("pages", matchdesk_pages, text, length, bytes, want, pages, bytes);
+    try_output("pages", matchdesk_pages, text, length, bytes + 1, want, pages, bytes);
+    try_output("pages", matchdesk_pages, text, length, bytes + MATCHDESK_PAGE_LINE, want, pages, bytes);
+    if (bytes > 0) {
+        try_output("pages", matchdesk_pages, text, length, bytes - 1, shorter, pages, 0);
+        try_output("pages", matchdesk_pages, text, length, length, shorter, pages, 0);
+        try_output("pages", matchdesk_pages, text, length, 0, shorter, pages, 0);
+    }
+}
+
+static void try_long_pages(const struct long_pages *p)
+{
+    size_t length = send(p->image), bytes = MATCHDESK_PAGE_LINE * p->lines;
+    struct answer want = {0, bytes, 0}, shorter = {30, 0, 0}, got = {0, UNSET, UNSET};
+    memset(memory, 0xEE, sizeof memory);
+    got.number = matchdesk_pages(image, length, memory, bytes - 1, &got.first, &got.second);
+    compare("pages", p->image, shorter, got);
+    got.number = matchdesk_pages(image, length, memory, bytes, &got.first, &got.second);
+    compare("pages", p->image, want, got);
+    image_kept("pages", p->image);
+    for (size_t i = 0; i < p->lines; i++)
+        if (memory[MATCHDESK_PAGE_LINE * i + MATCHDESK_PAGE_LINE - 1] != '\n')
+            complain("pages", p->image, "a line has no end", MATCHDESK_PAGE_LINE * i);
+    for (size_t i = 0; i < sizeof p->shown / sizeof *p->shown && p->shown[i].line != NULL; i++)
+        if (memcmp(memory + MATCHDESK_PAGE_LINE * p->shown[i].at, p->shown[i].line, MATCHDESK_PAGE_LINE - 1) != 0)
+            complain("pages", p->image, "a wrong line", MATCHDESK_PAGE_LINE * p->shown[i].at);
+    for (size_t i = bytes; i < sizeof memory; i++)
+        if (memory[i] != 0xEE) {
+            complain("pages", p->image, "a byte that should stay was changed", i);
+            break;
+        }
+}
+
 int main(void)
 {
     for (size_t i = 0; i < sizeof checked / sizeof *checked; i++) {
@@ -371,6 +480,10 @@ int main(void)
             try_refused("crystalfold", matchdesk_crystalfold, c->image, c->site_check);
             try_refused("rewrite", matchdesk_rewrite, c->image, c->site_check);
             try_refused("rewrite_fuller", matchdesk_rewrite_fuller, c->image, c->site_check);
+            /* whatever is lent: 30 comes behind the check, and there is no 5 */
+            size_t length = send(c->image);
+            try_output("pages", matchdesk_pages, c->image, length, 0, c->site_check, expected, 0);
+            try_output("pages", matchdesk_pages, c->image, length, 4096, c->site_check, expected, 0);
         }
     }
     for (size_t i = 0; i < sizeof rewritten / sizeof *rewritten; i++) {
@@ -391,6 +504,12 @@ int main(void)
         try_written("rewrite", matchdesk_rewrite, fuller[i].image, unchanged);
         try_written("rewrite_fuller", matchdesk_rewrite_fuller, fuller[i].image, fuller[i].fuller);
     }
+    for (size_t i = 0; i < sizeof paged / sizeof *paged; i++) {
+        size_t bytes = lines(paged[i].lines, sizeof paged[i].lines / sizeof *paged[i].lines, expected);
+        try_pages(paged[i].image, expected, bytes);
+    }
+    for (size_t i = 0; i < sizeof long_pages / sizeof *long_pages; i++)
+        try_long_pages(&long_pages[i]);
     printf("interface: %u calls, %u wrong\n", calls, wrong);
     return wrong != 0;
 }

@@ -9,7 +9,7 @@
 #define PAINT 0xA5
 
 static unsigned char stack[1 << 20] __attribute__((aligned(4096)));
-static unsigned char image[LONGEST], out[LONGEST];
+static unsigned char image[LONGEST], out[MATCHDESK_MAX_PAGES];
 static size_t length, number, first, second;
 static ucontext_t host, guest;
 
@@ -19,13 +19,14 @@ static void cleanup(void) { number = matchdesk_cleanup(image, length, out, sizeo
 static void crystalfold(void) { number = matchdesk_crystalfold(image, length, out, sizeof out, &first, &second); }
 static void rewrite(void) { number = matchdesk_rewrite(image, length, out, sizeof out, &first, &second); }
 static void rewrite_fuller(void) { number = matchdesk_rewrite_fuller(image, length, out, sizeof out, &first, &second); }
+static void pages(void) { number = matchdesk_pages(image, length, out, sizeof out, &first, &second); }
 
 static const struct {
     const char *name;
     void (*call)(void);
 } functions[] = {
     {"image_check", image_check}, {"site_check", site_check}, {"cleanup", cleanup}, {"crystalfold", crystalfold},
-    {"rewrite", rewrite}, {"rewrite_fuller", rewrite_fuller},
+    {"rewrite", rewrite}, {"rewrite_fuller", rewrite_fuller}, {"pages", pages},
 };
 
 /* Ret, then 2,047 unreachable cells: 1,024 StoreVars with an activation site or a write site, and a Borrow or Write event for each */

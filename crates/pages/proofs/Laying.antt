@@ -1,5 +1,5 @@
 -- The walks: over the cells of a part, over the parts of a function, and over the functions of an accepted image.
-use mathlib.Core.Path.{_≡_, refl, sym, _∙_, ap, subst}
+use mathlib.Core.Path.{_≡_, refl, sym, _∙_, ap, ap₂, subst}
 use mathlib.Core.List.{List, [], _∷_, _++_, append-assoc, append-nil}
 use Prim.Native.Nat.{ℕ, _+_, _-_, _/_, _≤_, _<_}
 use native.Mathlib.Omega.{arith}
@@ -111,35 +111,48 @@ module _ (f : Function) where
         length-heading (nameIn f) 1,
       )
 
-  module _ {text : List ℕ} {at : ℕ} (q : FunctionRoom f text at) {text₁ : List ℕ} {a : ℕ} (w : TextWritten (take at text ++ heading (nameIn f) 1) text text₁ a)
-      (l : length text₁ ≡ length text) where
+  -- `name` and `k` are the function's name and the count of its instructions as the code finds them
+  module _ {text : List ℕ} {at : ℕ} (q : FunctionRoom f text at) {name : ℕ} (n : name ≡ nameIn f) {text₁ : List ℕ} {a : ℕ}
+      (w : TextWritten (take at text ++ heading name 1) text text₁ a) (l : length text₁ ≡ length text) where
     heading-end : a ≡ at + 58
-    heading-end =
-        omega (
-          arith,
-          end-at text (heading (nameIn f) 1) at a (omega (arith, q .room)) (w .end),
-          length-heading (nameIn f) 1,
-        )
+    heading-end = omega (arith, end-at text (heading name 1) at a (omega (arith, q .room)) (w .end), length-heading name 1)
 
-    pub code-room : PartRoom Code (nameIn f) 0 (f .code) text₁ a
+    code-is : flat (partLines Code name 0 (f .code)) ≡ codeText
+    code-is = ap (λ (m : ℕ). flat (partLines Code m 0 (f .code))) n
+
+    pub code-room : PartRoom Code name 0 (f .code) text₁ a
     code-room = record {
       listable = q .listable .code;
       few = omega (arith, q .listable .few);
-      room = omega (arith, heading-end, l, q .room, function-length);
+      room = omega (arith, heading-end, l, q .room, function-length, ap length code-is);
     }
 
-    module _ {text₂ : List ℕ} {b : ℕ} (v : TextWritten (take a text₁ ++ codeText) text₁ text₂ b) (m : length text₂ ≡ length text₁) where
-      pub events-room : PartRoom Events (nameIn f) (length (f .code)) (f .events) text₂ b
+    module _ {k : ℕ} (e : k ≡ length (f .code)) {text₂ : List ℕ} {b : ℕ} (v : TextWritten (take a text₁ ++ flat (partLines Code name 0 (f .code))) text₁ text₂ b)
+        (m : length text₂ ≡ length text₁) where
+      code-end : b ≡ a + length codeText
+      code-end =
+          omega (
+            arith,
+            end-at text₁ (flat (partLines Code name 0 (f .code))) a b (omega (arith, heading-end, l, q .room, function-length)) (v .end),
+            ap length code-is,
+          )
+
+      events-is : flat (partLines Events name k (f .events)) ≡ eventsText
+      events-is = ap₂ (λ (i j : ℕ). flat (partLines Events i j (f .events))) n e
+
+      pub events-room : PartRoom Events name k (f .events) text₂ b
       events-room = record {
         listable = q .listable .events;
-        few = q .listable .few;
-        room = omega (arith, heading-end, end-at text₁ codeText a b (omega (arith, heading-end, l, q .room, function-length)) (v .end), l, m, q .room, function-length);
+        few = omega (arith, q .listable .few);
+        room = omega (arith, heading-end, code-end, l, m, q .room, function-length, ap length events-is);
       }
 
-      pub function-written : {text₃ : List ℕ} {r : ℕ} → TextWritten (take b text₂ ++ eventsText) text₂ text₃ r → TextWritten (take at text ++ flat (functionLines f)) text text₃ r
+      pub function-written : {text₃ : List ℕ} {r : ℕ} → TextWritten (take b text₂ ++ flat (partLines Events name k (f .events))) text₂ text₃ r
+          → TextWritten (take at text ++ flat (functionLines f)) text text₃ r
       function-written x =
+          let u = written-both (take at text) (heading (nameIn f) 1) codeText (rw n at w) (rw code-is at v) in
           rw (function-text, ← append-assoc (heading (nameIn f) 1) codeText eventsText)
-          (written-both (take at text) (heading (nameIn f) 1 ++ codeText) eventsText (written-both (take at text) (heading (nameIn f) 1) codeText w v) x)
+          (written-both (take at text) (heading (nameIn f) 1 ++ codeText) eventsText u (rw events-is at x))
 
 -- ---- the functions of an image, written one behind another
 

@@ -7,8 +7,13 @@ use Rattle.pages.proofs.line.put_position.Tie as tie
 
 returns : tie.Need-returns
 returns c =
-    let a = c .before .before .before .before .before .before .before .before .before .before .before .args in
-    rw (five-places (a .n) (omega arith)) (rw (c .before .before .before .before .before .before .before .before .before .place .ensures, c .before .before .before .before .before .before .before .before .place2 .ensures, c .before .before .before .before .before .before .before .place3 .ensures, c .before .before .before .before .before .before .place4 .ensures, c .before .before .before .before .before .digit .ensures) at (c .before .before .append .ensures))
+    let d5 = c .before .before .before .before .before in
+    let d4 = d5 .before in
+    let d3 = d4 .before in
+    let d2 = d3 .before in
+    let d1 = d2 .before in
+    rw (five-places (d1 .before .before .args .n) (omega arith))
+    (rw (d1 .place .ensures, d2 .place2 .ensures, d3 .place3 .ensures, d4 .place4 .ensures, d5 .digit .ensures) at (c .before .before .append .ensures))
 
 pub put-position-spec : {M : Type 1} → statement M
 put-position-spec =
