@@ -143,11 +143,11 @@ pub fn put_decimal(n: usize, text: &mut [u8], at: usize) -> usize
     ensures { λ r. ⌜ TextWritten (take at (now (text .entry)) ++ decimal n) (now (text .entry)) (now (text .exit)) r ⌝ }
 {
     if n < 10 {
-        text[at] = b'0' + n as u8;
+        text[at] = digit(n);
         return at + 1;
     }
     let k = put_decimal(n / 10, text, at);
-    text[k] = b'0' + (n % 10) as u8;
+    text[k] = digit(n);
     k + 1
 }
 

@@ -1,9 +1,9 @@
--- The walks: over the cells of a part, over the parts of a function, and over the functions of an accepted image.
+-- A line from its pieces; and the walks: over the cells of a part, over the parts of a function, and over the functions of an accepted image.
 use mathlib.Core.Path.{_≡_, refl, sym, _∙_, ap, ap₂, subst}
 use mathlib.Core.List.{List, [], _∷_, _++_, append-assoc, append-nil}
 use Prim.Native.Nat.{ℕ, _+_, _-_, _/_, _≤_, _<_}
 use native.Mathlib.Omega.{arith}
-use lib.ListN.{length, getD, take, drop, length-append, drop-of-length-le}
+use lib.ListN.{length, getD, set, take, drop, length-append, length-drop, drop-of-length-le}
 use Rattle.cells.specs.Cells.{Cell, cells, flat}
 use Rattle.cells.specs.Functions.{Function, there, functions, functionOf, functionFrom}
 use Rattle.cells.specs.Lists.{All}
@@ -17,10 +17,44 @@ use Rattle.cells.proofs.Spans.{drop-next, length-part}
 use Rattle.image.specs.SiteCheck.{SitesPass}
 use Rattle.image.proofs.Steps.{functions-end}
 use Rattle.listing.specs.Contracts.{TextWritten}
-use Rattle.listing.proofs.Pieces.{written-none, written-start, written-next, written-both, end-at}
-use Rattle.pages.specs.Pages.{heading, entryLines, partLines, nameIn, functionLines, allLines, pageLines, pagesText, linesOf, linesOfAll, mostLines}
-use Rattle.pages.specs.Steps.{Listable, ListableFunction, EntryRoom, PartRoom, FunctionRoom}
-use Rattle.pages.proofs.Lines.{length-heading, image-listable, most-lines}
+use Rattle.listing.specs.Places.{ascii}
+use Rattle.listing.specs.Text.{lineFeed, hex}
+use Rattle.listing.proofs.Lines.{length-hex}
+use Rattle.listing.proofs.Pieces.{written-none, written-start, written-byte, written-next, written-both, end-at}
+use Rattle.pages.specs.Pages.{heading, cellLine, entryLines, partLines, nameIn, functionLines, allLines, pageLines, pagesText, linesOf, linesOfAll, mostLines}
+use Rattle.pages.specs.Steps.{cellTitle, Listable, ListableFunction, EntryRoom, PartRoom, FunctionRoom}
+use Rattle.pages.proofs.Lines.{length-title, length-heading, tail-is, image-listable, most-lines}
+
+-- ---- a cell's line: its position and name, two blanks, its bytes, and the end
+
+module _ (p : Part) (position : ℕ) (c : Cell) (r : Listable p c) (h : position < 4096) {line line₁ line₂ : List ℕ} {a b : ℕ}
+    (u : TextWritten (cellTitle p position c) line line₁ a) (v : TextWritten (take a line₁ ++ ascii "  ") line₁ line₂ b) where
+  titled : TextWritten (cellTitle p position c ++ ascii "  ") line line₂ b
+  titled = written-next u (ascii "  ") v
+
+  pub title-end : b ≡ 27
+  title-end = omega (arith, titled .end, length-append (cellTitle p position c) (ascii "  "), length-title p position c (r .0) h)
+
+  module _ {line₃ : List ℕ} {k : ℕ} (z : TextWritten (take b line₂ ++ hex (take (length c - 1) (drop 1 c))) line₂ line₃ k) where
+    filled : TextWritten (cellTitle p position c ++ ascii "  " ++ hex (drop 1 c)) line line₃ k
+    filled = written-next titled (hex (drop 1 c)) (rw (tail-is c) at z)
+
+    pub bytes-end : k ≡ 57
+    bytes-end =
+        omega (
+          arith,
+          filled .end,
+          length-append (cellTitle p position c ++ ascii "  ") (hex (drop 1 c)),
+          titled .end,
+          title-end,
+          length-hex (drop 1 c),
+          length-drop 1 c,
+          r .1,
+        )
+
+    pub line-written : length line ≡ 58 → TextWritten (cellLine p position c) line (set line₃ k lineFeed) (k + 1)
+    unfolding cellLine
+    line-written l = written-byte filled lineFeed (omega (arith, bytes-end))
 
 -- ---- a part: the cells before i are written
 
