@@ -17,7 +17,7 @@ use Rattle.image.specs.SiteCheck.{siteAnswer, SitesPass}
 use Rattle.image.proofs.Good.{site-good}
 use Rattle.listing.specs.Contracts.{TextWritten}
 use Rattle.pages.specs.Pages.{pagesText}
-use Rattle.pages.specs.Contracts.{numbersOfPages, isLaid, lengthLaid, answerAs, pagesAnswer, pagesOutput, PagesDone}
+use Rattle.pages.specs.Contracts.{replyOf, isLaid, lengthLaid, answerAs, pagesAnswer, pagesOutput, PagesDone}
 use Rattle.pages.specs.declared.Paged.{Paged}
 use Rattle.pages.specs.declared.Paged.the-variants.{Laid, Refused, TooShort}
 use Rattle.pages.proofs.Lines.{whole-lines, text-size, most-lines}
@@ -65,7 +65,7 @@ laid-text s before h =
 pub pages-done : (s before after : List ℕ) (r : Paged) → r ≡ pagesAnswer s (length before) → after ≡ pagesOutput s before → PagesDone s before after r
 pages-done s before after r e f = record {
   answer = e;
-  reply = ap numbersOfPages e;
+  reply = ap replyOf e;
   bytes = f;
   accepted = rw e (laid-exactly s (length before));
   written = λ h. rw (e, f) (laid-text s before (rw e at h));

@@ -19,7 +19,7 @@ use Rattle.image.specs.Image.{imageAnswer}
 use Rattle.image.specs.SiteCheck.{siteAnswer}
 use Rattle.listing.specs.Decimal.{decimal}
 use Rattle.listing.specs.Places.{ascii}
-use Rattle.pages.specs.Contracts.{Reply, success, refusal, numbersOfPages, pagesAnswer, pagesOutput}
+use Rattle.pages.specs.Contracts.{Reply, success, refusal, replyOf, pagesAnswer, pagesOutput}
 use Rattle.pages.specs.Pages.{Line, heading, cellLine, functionLines, pageLines, pagesText, pagesOf, linesOf, lineBytes, mostLines}
 
 -- a line of 57 bytes as it is read, with its line feed
@@ -206,6 +206,6 @@ cases =
     ∷ []
 
 pub worked :
-    map (λ (c : OperationCase). operation (c .image) (c .before) (numbersOfPages (pagesAnswer (c .image) (length (c .before)))) (pagesOutput (c .image) (c .before))) cases ≡ cases
+    map (λ (c : OperationCase). operation (c .image) (c .before) (replyOf (pagesAnswer (c .image) (length (c .before)))) (pagesOutput (c .image) (c .before))) cases ≡ cases
 unfolding cases pagesAnswer pagesOutput pagesText pageLines heading cellLine commandNames eventNames decimal over siteAnswer imageAnswer functions instructionCheck eventCheck headCheck rows siteOf eventSite siteBy repeatAnswer activationAnswer judgeBy
 worked = refl

@@ -24,10 +24,10 @@ pub data Reply : Type 0 where
   success : ℕ → Reply
   refusal : Numbers → Reply
 
-abbrev pub numbersOfPages : Paged → Reply
-numbersOfPages (Laid n) = success n
-numbersOfPages (Refused x) = refusal (numbersOf x)
-numbersOfPages TooShort = refusal (numbered 30 0 0)
+abbrev pub replyOf : Paged → Reply
+replyOf (Laid n) = success n
+replyOf (Refused x) = refusal (numbersOf x)
+replyOf TooShort = refusal (numbered 30 0 0)
 
 abbrev pub isLaid : Paged → Bool
 isLaid (Laid n) = true
@@ -60,7 +60,7 @@ pagesOutput s before = outputAs (pagesAnswer s (length before)) (pagesText s) be
 pub record PagesDone (s before after : List ℕ) (r : Paged) : Type 0 where
   -- the answer, and the same by the document's numbers
   pub answer : r ≡ pagesAnswer s (length before)
-  pub reply : numbersOfPages r ≡ numbersOfPages (pagesAnswer s (length before))
+  pub reply : replyOf r ≡ replyOf (pagesAnswer s (length before))
   -- every byte of the buffer
   pub bytes : after ≡ pagesOutput s before
   -- success exactly if the image passes the site check and the buffer is as long as the pages
