@@ -125,7 +125,7 @@ whole-all (f ∷ fs) l = whole-append (functionLines f) (allLines fs) (whole-fun
 pub some-pages : (n : ℕ) → 0 < n → pagesOf n ≡ (n + 48) / 49
 some-pages n h = rw (ne-eqb n 0 (λ e. omega arith))
 
-page-more : (name position : ℕ) → length (newPage name position) + pagesOf position ≡ pagesOf (position + 1)
+pub page-more : (name position : ℕ) → length (newPage name position) + pagesOf position ≡ pagesOf (position + 1)
 page-more name zero = refl
 page-more name (suc i) =
     let a = some-pages (suc i) (omega arith) in
@@ -140,7 +140,7 @@ page-more name (suc i) =
     let g : 0 < suc i % 49 = omega (arith, f) in
     omega (arith, a, b, n, g))
 
-count-part : (p : Part) (name position : ℕ) (cs : List Cell) → length (partLines p name position cs) + pagesOf position ≡ length cs + pagesOf (position + length cs)
+pub count-part : (p : Part) (name position : ℕ) (cs : List Cell) → length (partLines p name position cs) + pagesOf position ≡ length cs + pagesOf (position + length cs)
 count-part p name position [] =
     let e : position ≡ position + 0 = omega arith in
     omega (arith, ap pagesOf e)
@@ -155,7 +155,7 @@ count-part p name position (c ∷ cs) =
       ap pagesOf e,
     )
 
-count-function : (f : Function) → length (functionLines f) ≡ linesOf (there f)
+pub count-function : (f : Function) → length (functionLines f) ≡ linesOf (there f)
 count-function f =
     let e : 0 + length (f .code) ≡ length (f .code) = omega arith in
     omega (

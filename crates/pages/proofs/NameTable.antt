@@ -6,7 +6,7 @@ use Prim.Native.String.{String}
 use native.Mathlib.Nat.{le-of-suc-le-suc, not-suc-le-zero}
 use native.Mathlib.Omega.{arith}
 use lib.Dec.{T, eqb, eqb→eq}
-use lib.ListN.{length, getD, take, drop}
+use lib.ListN.{length, getD, take, drop, List·getD-append}
 use lib.Seq.{take-at, drop-at, drop-drop}
 use Rattle.cells.specs.Bytes.{byte}
 use Rattle.cells.specs.Cells.{Cell, flat}
@@ -62,17 +62,12 @@ kind-name zero h = refl
 kind-name (suc zero) h = refl
 kind-name (suc (suc k)) h = absurd (omega arith)
 
-before : {A : Type 0} (d : A) (xs ys : List A) (k : ℕ) → k < length xs → getD (xs ++ ys) k d ≡ getD xs k d
-before d [] ys k h = absurd (not-suc-le-zero h)
-before d (x ∷ xs) ys zero h = refl
-before d (x ∷ xs) ys (suc k) h = before d xs ys k (le-of-suc-le-suc h)
-
 command-count : length commandNames ≡ 82
 unfolding commandNames
 command-count = refl
 
 pub row-name : (p : Part) (c : Cell) → Named p c → getD allNames (nameRow p c) "" ≡ nameOf p c
-row-name Code c h = before "" commandNames eventNames (byte c 0) (omega (arith, command-count))
+row-name Code c h = List·getD-append commandNames eventNames "" (byte c 0) (omega (arith, command-count))
 row-name Events c h = kind-name (byte c 0) h
 
 pub length-name : (p : Part) (c : Cell) → Named p c → length (fill 18 (ascii (nameOf p c))) ≡ 18

@@ -20,6 +20,7 @@ use Rattle.image.specs.SiteCheck.{siteAnswer}
 use Rattle.listing.specs.Decimal.{decimal}
 use Rattle.listing.specs.Places.{ascii}
 use Rattle.pages.specs.Contracts.{Reply, success, refusal, replyOf, pagesAnswer, pagesOutput}
+use Rattle.pages.specs.LinePlaces.{lineOf}
 use Rattle.pages.specs.Pages.{Line, heading, cellLine, functionLines, pageLines, pagesText, pagesOf, linesOf, lineBytes, mostLines}
 
 -- a line of 57 bytes as it is read, with its line feed
@@ -135,6 +136,17 @@ pub events-over-pages :
     ∷ [])
 unfolding heading cellLine commandNames eventNames decimal
 events-over-pages = (refl, refl)
+
+-- a function's cells by their positions, wherever the pages end
+pub by-position :
+    map (lineOf (mixed 48 3)) (0 ∷ 47 ∷ 48 ∷ 50 ∷ [])
+    ≡ line "    0  Label               010000000000000000000000000000"
+    ∷ line "   47  Label               010000000000000000000000000000"
+    ∷ line "   48  Borrow              000000000000000000000000000000"
+    ∷ line "   50  Borrow              000000000000000000000000000000"
+    ∷ []
+unfolding cellLine commandNames eventNames decimal
+by-position = refl
 
 -- the longest function's last page and last position; the longest pages are reached, by functions of 3,039 and 1,055 cells (4,096 with the heads)
 pub longest :
