@@ -170,7 +170,7 @@ count-all : (fs : List Function) → length (allLines fs) ≡ linesOfAll fs
 count-all [] = refl
 count-all (f ∷ fs) = omega (arith, length-append (functionLines f) (allLines fs), count-function f, count-all fs)
 
--- 49 lines have no more than 50 cells, heads counted
+-- 49 cells, heads counted, have no more than 50 lines
 pub few-lines : (n : ℕ) → 49 * linesOf n ≤ 50 * (n + 1)
 few-lines zero = omega arith
 few-lines (suc n) = omega (arith, some-pages (suc n) (omega arith))
