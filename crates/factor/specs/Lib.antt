@@ -1,0 +1,4 @@
+pub mod Factor
+pub mod Claim
+pub mod Closed
+pub mod Cases
