@@ -4,7 +4,8 @@
 Expected values come from exact arithmetic. A binary64 operand is decoded to a fraction, the operation is done on
 fractions.Fraction, and the result is rounded once to nearest, ties to even, by `encode` below. Python's own float
 arithmetic isn't used. I32, U32 and Fx values are Python integers; quads follow from Belnap's two orders alone.
-A number leaf without a value has one of document 02's reasons (W5). The seeds are fixed: two runs write the same files.
+A number leaf without a value has one of document 02's reasons (W5). Factors (W14) come from a search over all i32, whose
+answers stand in tests/factors/found.txt. The seeds are fixed: two runs write the same files.
 """
 import os
 import random
@@ -13,8 +14,9 @@ from fractions import Fraction
 
 ROOT = os.path.join(os.path.dirname(os.path.abspath(__file__)), "..", "..")
 CASES = os.path.join(ROOT, "crates", "cases_leaves")
+FOUND = os.path.join(ROOT, "tests", "factors", "found.txt")
 
-# Why a number leaf has no value (document 02, W5); and what stands for no quad.
+# Why a number leaf has no value (document 02, W5); and what stands for no quad and for no factor.
 ZERO = "divisor zero"
 RANGE = "out of range"
 NONE = "none"
@@ -420,6 +422,100 @@ def integers(rng, ends, kind, name, operation, edges, low, high):
     return rows
 
 
+# ---- factors (document 02, W14): the wanted value, one factor, and the other
+
+# "Given a wanted value and one factor, find the other for MulFx and for MulI32, as the number leaves define them."
+FACTORS = [
+    (FX, 2250, 1500, 1500),
+    (FX, 1, 1000, 1),
+    (FX, 1, 1, 1000),
+    (FX, 1, -1, -1000),
+    (FX, -1, 1, -1000),
+    (FX, -1, -1, 1000),
+    (I32, 42, 7, 6),
+    (I32, 42, -7, -6),
+    (I32, 1, 3, -1431655765),
+    (I32, -1, 3, 1431655765),
+    (I32, 1, MOST, MOST),
+    # MulFx truncates: 999 times 2 is 1,998 thousandths; 1,999 times 1 gives 1, and 2,000 times 1 is too much already
+    (FX, 1, 999, 2),
+    (FX, 1, 1999, 1),
+    (FX, 1, 2000, NONE),
+    (FX, -1, 1999, -1),
+    (FX, -1, -1999, 1),
+    (FX, 1, -2000, NONE),
+    (FX, 2, 1999, NONE),
+    (FX, 1000, 999, 1002),
+    (FX, 1000, 1001, NONE),
+    # "Of several, the one nearest zero is given,"
+    (FX, 0, 0, 0),
+    (FX, 0, 1, 0),
+    (FX, 0, LEAST_I32, 0),
+    (I32, 0, 0, 0),
+    (I32, 0, 1, 0),
+    (I32, 0, LEAST_I32, 0),
+    (I32, 6, 2, 3),
+    (I32, -2, 2, -1),
+    (I32, 65536, 65536, 1),
+    (I32, -65536, 65536, -1),
+    (I32, -1073741824, 1073741824, -1),
+    # "the positive one on a tie."
+    (I32, LEAST_I32, 2, 1073741824),
+    (I32, LEAST_I32, 1073741824, 2),
+    (I32, LEAST_I32, -1073741824, 2),
+    (I32, LEAST_I32, LEAST_I32, 1),
+    # "Every i32 counts as a possible factor.": the least number too, and its positive twin is none
+    (FX, LEAST_I32, 1000, LEAST_I32),
+    (FX, LEAST_I32, -1000, NONE),
+    (FX, MOST, 1000, MOST),
+    (FX, MOST, -1000, -MOST),
+    (FX, LEAST_I32, LEAST_I32, 1000),
+    (FX, 268435456, 125, NONE),
+    (FX, 268435456, -125, LEAST_I32),
+    (FX, -268435456, 125, LEAST_I32),
+    (FX, 2147483, 1, 2147483000),
+    (FX, 2147484, 1, NONE),
+    (I32, LEAST_I32, 1, LEAST_I32),
+    (I32, LEAST_I32, -1, LEAST_I32),
+    (I32, LEAST_I32, 3, LEAST_I32),
+    (I32, MOST, -1, -MOST),
+    # "It refuses 36 when no factor gives the wanted value, and only then."
+    (FX, 1, 0, NONE),
+    (FX, LEAST_I32, 0, NONE),
+    (FX, MOST, 999, NONE),
+    (FX, MOST, 2000, NONE),
+    (FX, LEAST_I32, MOST, NONE),
+    (I32, 1, 0, NONE),
+    (I32, LEAST_I32, 0, NONE),
+    (I32, 1, 2, NONE),
+    (I32, 6, 4, NONE),
+    (I32, MOST, LEAST_I32, NONE),
+]
+
+
+def searched():
+    """What was found by trying every i32 (tests/factors): kind, wanted value, factor, and the other."""
+    rows = []
+    with open(FOUND) as found:
+        for kind, wanted, factor, other in map(str.split, found):
+            rows.append(({"fx": FX, "i32": I32}[kind], int(wanted), int(factor), other if other == NONE else int(other)))
+    return rows
+
+
+def factor_rows(kind, rows):
+    of_kind = [row[1:] for row in rows if row[0] is kind]
+    return [tuple(n if n == NONE else n % (1 << 32) for n in row) for row in of_kind]
+
+
+def check_factors(rows):
+    """A factor gives the wanted value; and no pair has two answers."""
+    answers = {}
+    for kind, wanted, factor, other in rows:
+        label, product = ("fx", dict(FX)["mul"]) if kind is FX else ("i32", dict(I32)["mul"])
+        assert other == NONE or product(other, factor) == wanted, (label, wanted, factor, other)
+        assert answers.setdefault((label, wanted, factor), other) == other, (label, wanted, factor, other)
+
+
 # ---- quads, from the orders alone: in the approximation order N is below F and T, both below S; in the truth order F is below N and S, both below T
 
 N, F, T, S = range(4)
@@ -472,7 +568,7 @@ assert equal(0, SIGN) == 1
 # ---- writing
 
 # The program's numbers of the leaves: a kind, and a leaf of it.
-LEAF = {"f64": 0x10, "i32": 0x20, "u32": 0x30, "fx": 0x40, "quad": 0x50, "bool": 0x60, "eq": 0x70}
+LEAF = {"f64": 0x10, "i32": 0x20, "u32": 0x30, "fx": 0x40, "quad": 0x50, "bool": 0x60, "eq": 0x70, "factor": 0x80}
 LINE = 50  # bytes of a line before its end
 
 
@@ -559,6 +655,11 @@ def main():
     # The zeros of two kinds differ, and Unknown equals none.
     rows = [(a, b, 0) for a in range(len(KINDS)) for b in range(len(KINDS)) if a != b or a == 0]
     group("eq", 0, "const eq, two kinds", rows)
+
+    check_factors(FACTORS + searched())
+    for leaf, (name, kind) in enumerate((("fx", FX), ("i32", I32)), 1):
+        group("factor", leaf, "factor %s, by hand" % name, factor_rows(kind, FACTORS))
+        group("factor", leaf, "factor " + name, factor_rows(kind, searched()))
 
     text = [line("# %02X %02X %s" % (leaf, len(name), name)) + "".join(row(*r) for r in rows) for leaf, name, rows in groups]
     write("data/vectors.txt", "".join(text))

@@ -5,6 +5,7 @@ use mathlib.Core.Logic.{_↔_}
 use mathlib.Core.Bool.{true, true≢false}
 use mathlib.Core.List.{List}
 use native.Mathlib.Omega.{arith}
+use lib.IntN.{ℤ}
 use lib.ListN.{length}
 use Rattle.cells.specs.Refusals.{numbersOf}
 use Rattle.cells.specs.declared.refusal.Refusal.{Refusal}
@@ -22,8 +23,14 @@ use Rattle.passes.specs.declared.Pass.{Pass}
 use Rattle.crystalfold.specs.declared.rules.RuleSet.{RuleSet}
 use Rattle.passes.specs.declared.Rewrite.{Rewrite}
 use Rattle.passes.specs.declared.Rewrite.the-variants.{Written, Refused}
-use Rattle.capi.specs.Replies.{checkReply, rewriteReply, pagesReply}
-use Rattle.capi.specs.Contracts.{ImageReplied, SitesReplied, PassReplied, RewriteReplied, PagesReplied}
+use Rattle.factor.specs.Claim.{FactorFound}
+use Rattle.factor.specs.declared.Factor.{Factor}
+use Rattle.factor.specs.declared.Factor.the-variants.{Found, NoFactor}
+use Rattle.leaves.specs.declared.constant.ConstVal.{ConstVal}
+use Rattle.leaves.specs.declared.verdict.Verdict.{Verdict}
+use Rattle.capi.specs.Replies.{checkReply, rewriteReply, pagesReply, factorReply}
+use Rattle.capi.specs.Contracts.{ImageReplied, SitesReplied, PassReplied, RewriteReplied, PagesReplied, FactorReplied}
+use Rattle.capi.specs.declared.FactorReply.{FactorReply}
 use Rattle.capi.specs.declared.Reply.{Reply}
 
 -- ---- 0 is no refusal's number
@@ -95,3 +102,23 @@ pages-replied s before after r q h e = record {
   accepted = via e (pages-zero r) (h .accepted);
   done = rw (sym (h .answer)) h;
 }
+
+-- of a factor, whatever the product
+right-replied : (product : ℤ → ℤ → Verdict) (wanted : ConstVal) (factor : ℤ) (r : Factor) → FactorFound product wanted factor r
+    → FactorReplied product wanted factor r (factorReply r .number) (factorReply r .other)
+right-replied product wanted factor (Found x) h = record {
+  reply = refl;
+  accepted = ((λ e. (x, h .right .is)), (λ f. refl));
+  nearest = λ e. h .right;
+  refused = ((λ e. absurd (omega (arith, e))), (λ n. absurd (n x (h .right .is))));
+}
+right-replied product wanted factor NoFactor h = record {
+  reply = refl;
+  accepted = ((λ e. absurd (omega (arith, e))), (λ f. absurd (h .right (f .0) (f .1))));
+  nearest = λ e. absurd (omega (arith, e));
+  refused = ((λ e. h .right), (λ n. refl));
+}
+
+pub factor-replied : (product : ℤ → ℤ → Verdict) (wanted : ConstVal) (factor : ℤ) (r : Factor) (q : FactorReply) {x : ℤ} → x ≡ q .other → q ≡ factorReply r
+    → FactorFound product wanted factor r → FactorReplied product wanted factor r (q .number) x
+factor-replied product wanted factor r q k e h = rw (k, e) (right-replied product wanted factor r h)

@@ -4,6 +4,7 @@ use Prim.Native.Nat.{ℕ, _≤_}
 use mathlib.Core.Path.{_≡_}
 use mathlib.Core.Logic.{_↔_}
 use mathlib.Core.List.{List}
+use lib.IntN.{ℤ}
 use lib.ListN.{length}
 use Rattle.image.specs.Image.{imageAnswer, GoodImage}
 use Rattle.image.specs.SiteCheck.{siteAnswer, SitesPass}
@@ -14,7 +15,11 @@ use Rattle.passes.specs.Contracts.{PassDone, RewriteDone}
 use Rattle.passes.specs.declared.Pass.{Pass}
 use Rattle.passes.specs.declared.Pass.the-variants.{Both}
 use Rattle.crystalfold.specs.declared.rules.RuleSet.{RuleSet}
-use Rattle.capi.specs.Replies.{three, checkReply, rewriteReply, pagesReply}
+use Rattle.factor.specs.Claim.{IsFactor, Nearest}
+use Rattle.factor.specs.declared.Factor.{Factor}
+use Rattle.leaves.specs.declared.constant.ConstVal.{ConstVal}
+use Rattle.leaves.specs.declared.verdict.Verdict.{Verdict}
+use Rattle.capi.specs.Replies.{three, checkReply, rewriteReply, pagesReply, two, factorReply}
 
 pub record ImageReplied (s : List ℕ) (number first second : ℕ) : Type 0 where
   pub reply : three number first second ≡ checkReply (imageAnswer s)
@@ -42,3 +47,13 @@ pub record PagesReplied (s before after : List ℕ) (number first second : ℕ) 
   pub accepted : (number ≡ 0) ↔ (SitesPass s × (length (pagesText s) ≤ length before))
   -- every byte of the buffer, and all that `pages` promises
   pub done : PagesDone s before after (pagesAnswer s (length before))
+
+-- the other factor: of a leaf's product, a wanted value as that leaf has it, a factor and the answer r; `other` is what stands behind the reference
+-- at exit
+pub record FactorReplied (product : ℤ → ℤ → Verdict) (wanted : ConstVal) (factor : ℤ) (r : Factor) (number : ℕ) (other : ℤ) : Type 0 where
+  pub reply : two number other ≡ factorReply r
+  -- 0 exactly if some i32 is a factor, and then `other` is the one nearest zero, of two equally near the positive one
+  pub accepted : (number ≡ 0) ↔ ((x : ℤ) × IsFactor product wanted factor x)
+  pub nearest : number ≡ 0 → Nearest (IsFactor product wanted factor) other
+  -- 36 exactly if none is
+  pub refused : (number ≡ 36) ↔ ((x : ℤ) → IsFactor product wanted factor x → ⊥)

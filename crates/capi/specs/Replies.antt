@@ -1,6 +1,7 @@
--- Promise: the answers of the operations as three numbers. 0 and what a success holds; or the document's number of the refusal, the function's
--- position and the detail.
+-- Promise: the answers of the operations as numbers: three, 0 and what a success holds, or the document's number of the refusal, the function's
+-- position and the detail; of a factor two.
 use Prim.Native.Nat.{ℕ}
+use lib.IntN.{ℤ, pos}
 use Rattle.cells.specs.Refusals.{numbersOf}
 use Rattle.cells.specs.declared.refusal.Refusal.{Refusal}
 use Rattle.cells.specs.declared.refusal.Checked.{Checked}
@@ -9,6 +10,9 @@ use Rattle.passes.specs.declared.Rewrite.{Rewrite}
 use Rattle.passes.specs.declared.Rewrite.the-variants.{Written, Refused}
 use Rattle.pages.specs.declared.Paged.{Paged}
 use Rattle.pages.specs.declared.Paged.the-variants.{Laid, Refused as RefusedPages, TooShort}
+use Rattle.factor.specs.declared.Factor.{Factor}
+use Rattle.factor.specs.declared.Factor.the-variants.{Found, NoFactor}
+use Rattle.capi.specs.declared.FactorReply.{FactorReply}
 use Rattle.capi.specs.declared.Reply.{Reply}
 
 abbrev pub three : ℕ → ℕ → ℕ → Reply
@@ -32,3 +36,11 @@ abbrev pub pagesReply : Paged → Reply
 pagesReply (Laid n) = three 0 n 0
 pagesReply (RefusedPages x) = refusalReply x
 pagesReply TooShort = three 30 0 0
+
+-- the factor; 36, and 0, where no factor gives the wanted value (document 02, W14)
+abbrev pub two : ℕ → ℤ → FactorReply
+two n x = record { number = n; other = x }
+
+abbrev pub factorReply : Factor → FactorReply
+factorReply (Found x) = two 0 x
+factorReply NoFactor = two 36 (pos 0)

@@ -1,19 +1,30 @@
-// The operations for C and Rust: answers are numbers, and two of them are written through references.
+// The operations for C and Rust: answers are numbers, and those behind the first are written through references.
 use cells::refusal;
 use cells::refusal::Checked;
+use factor::Factor;
 use pages::Paged;
 use passes::Rewrite;
 ghost use mathlib.Core.Path.{_≡_};
 ghost use Rattle.crystalfold.specs.declared.rules.RuleSet.the-variants.{Default, Fuller};
 ghost use Rattle.passes.specs.declared.Pass.the-variants.{Cleanup, CrystalFold};
-ghost use Rattle.capi.specs.Replies.{refusalReply, checkReply, rewriteReply, pagesReply};
-ghost use Rattle.capi.specs.Contracts.{ImageReplied, SitesReplied, PassReplied, RewriteReplied, PagesReplied};
+ghost use Rattle.factor.specs.Factor.{factorFx, factorI32};
+ghost use Rattle.leaves.specs.Fixed.{mulFx};
+ghost use Rattle.leaves.specs.Signed.{mulI32};
+ghost use Rattle.leaves.specs.declared.constant.ConstVal.the-variants.{I32, Fx};
+ghost use Rattle.capi.specs.Replies.{refusalReply, checkReply, rewriteReply, pagesReply, factorReply};
+ghost use Rattle.capi.specs.Contracts.{ImageReplied, SitesReplied, PassReplied, RewriteReplied, PagesReplied, FactorReplied};
 
 // An answer in three numbers: 0 or the refusal's number, then two more.
 pub struct Reply {
     pub number: usize,
     pub first: usize,
     pub second: usize,
+}
+
+// Whether there is a factor: 0 and the factor; or 36 and 0.
+pub struct FactorReply {
+    pub number: usize,
+    pub other: i32,
 }
 
 // The image check: 0, or the refusal's number.
@@ -126,6 +137,28 @@ pub extern "C" fn matchdesk_pages(
     r.number
 }
 
+// The other factor of a MulFx: 0 and the factor; or 36 and 0.
+#[no_mangle]
+pub extern "C" fn matchdesk_factor_fx(wanted: i32, factor: i32, other: &mut i32) -> usize
+    ensures { λ r. ⌜ FactorReplied mulFx (Fx wanted) factor (factorFx wanted factor) r (now (other .exit)) ⌝ }
+{
+    let r = reply_of_factor(factor::factor_fx(wanted, factor));
+    let x = r.other;
+    *other = x;
+    r.number
+}
+
+// The other factor of a MulI32, answered as that of a MulFx.
+#[no_mangle]
+pub extern "C" fn matchdesk_factor_i32(wanted: i32, factor: i32, other: &mut i32) -> usize
+    ensures { λ r. ⌜ FactorReplied mulI32 (I32 wanted) factor (factorI32 wanted factor) r (now (other .exit)) ⌝ }
+{
+    let r = reply_of_factor(factor::factor_i32(wanted, factor));
+    let x = r.other;
+    *other = x;
+    r.number
+}
+
 fn reply_of_refusal(x: refusal::Refusal) -> Reply
     ensures { λ r. ⌜ r ≡ refusalReply x ⌝ }
 {
@@ -177,6 +210,21 @@ fn reply_of_pages(w: Paged) -> Reply
             number: 30,
             first: 0,
             second: 0,
+        },
+    }
+}
+
+fn reply_of_factor(f: Factor) -> FactorReply
+    ensures { λ r. ⌜ r ≡ factorReply f ⌝ }
+{
+    match f {
+        Factor::Found(x) => FactorReply {
+            number: 0,
+            other: x,
+        },
+        Factor::NoFactor => FactorReply {
+            number: 36,
+            other: 0,
         },
     }
 }

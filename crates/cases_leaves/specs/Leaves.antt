@@ -16,6 +16,9 @@ use Rattle.leaves.specs.Unsigned.{addU32, subU32, mulU32, divU32, modU32}
 use Rattle.leaves.specs.Fixed.{addFx, subFx, mulFx, divFx}
 use Rattle.leaves.specs.Quads.{qAnd, qOr, qImpl, qNot, qTruthAnd, qTruthOr, qTruthImpl, qTruthNot, quadOf, numberOf}
 use Rattle.leaves.specs.Constants.{constEq, onF64, onI32, onU32, onFx}
+use Rattle.factor.specs.Factor.{factorFx, factorI32}
+use Rattle.factor.specs.declared.Factor.{Factor}
+use Rattle.factor.specs.declared.Factor.the-variants.{Found, NoFactor}
 use Rattle.leaves.specs.declared.verdict.Verdict.{Verdict}
 use Rattle.leaves.specs.declared.verdict.Verdict.the-variants.{Value as ValueV, LeftUnknown, RightUnknown, Unfit, DivisorZero as DivisorZeroV, OutOfRange as OutOfRangeV, NotComputed}
 use Rattle.leaves.specs.declared.quad.Quad.{Quad}
@@ -83,6 +86,10 @@ abbrev pub ofNumber : QuadResult → Answer
 ofNumber (ValueQ q) = ofQuad q
 ofNumber AbsentQ = Absent
 
+abbrev pub ofFactor : Factor → Answer
+ofFactor (Found x) = Value (ofZ w32 x)
+ofFactor NoFactor = Absent
+
 abbrev pub ofBool : Bool → Answer
 ofBool b = cond b (Value 1) (Value 0)
 
@@ -123,5 +130,9 @@ boolLeaf n a b = pick (NoLeaf ∷ ofBool (a && b) ∷ ofBool (a || b) ∷ ofBool
 abbrev pub equalityLeaf : ℕ → ℕ → ℕ → Answer
 equalityLeaf k a b = cond (eqb k 0) (ofBool (constEq (constantOf a 0) (constantOf b 0))) (cond (leb k 6) (ofBool (constEq (constantOf k a) (constantOf k b))) NoLeaf)
 
+-- the other factor of a MulFx and of a MulI32 (document 02, W14), by the wanted value and a factor
+abbrev pub factorLeaf : ℕ → ℤ → ℤ → Answer
+factorLeaf n wanted factor = pick (NoLeaf ∷ ofFactor (factorFx wanted factor) ∷ ofFactor (factorI32 wanted factor) ∷ []) n
+
 unfoldable pub answerOf : ℕ → ℕ → ℕ → Answer
-answerOf leaf a b = pick (NoLeaf ∷ f64Leaf (leaf % 16) (floatOf a) (floatOf b) ∷ i32Leaf (leaf % 16) (i32Of a) (i32Of b) ∷ u32Leaf (leaf % 16) (u32Of a) (u32Of b) ∷ fxLeaf (leaf % 16) (i32Of a) (i32Of b) ∷ quadLeaf (leaf % 16) a b ∷ boolLeaf (leaf % 16) (eqb a 1) (eqb b 1) ∷ equalityLeaf (leaf % 16) a b ∷ []) (leaf / 16)
+answerOf leaf a b = pick (NoLeaf ∷ f64Leaf (leaf % 16) (floatOf a) (floatOf b) ∷ i32Leaf (leaf % 16) (i32Of a) (i32Of b) ∷ u32Leaf (leaf % 16) (u32Of a) (u32Of b) ∷ fxLeaf (leaf % 16) (i32Of a) (i32Of b) ∷ quadLeaf (leaf % 16) a b ∷ boolLeaf (leaf % 16) (eqb a 1) (eqb b 1) ∷ equalityLeaf (leaf % 16) a b ∷ factorLeaf (leaf % 16) (i32Of a) (i32Of b) ∷ []) (leaf / 16)

@@ -1,7 +1,8 @@
 // A leaf by its number, at two operands, each given by its bits, a quad and a bool by their numbers.
 ghost use mathlib.Core.Path.{_≡_};
 ghost use Prim.Native.Nat.{_%_};
-ghost use Rattle.cases_leaves.specs.Leaves.{u32Of, i32Of, quadAt, constantOf, ofVerdict, reasonOf, f64Bits, i32Bits, u32Bits, fxBits, ofQuad, ofNumber, ofBool, f64Leaf, i32Leaf, u32Leaf, fxLeaf, quadLeaf, boolLeaf, equalityLeaf, answerOf};
+ghost use Rattle.cases_leaves.specs.Leaves.{u32Of, i32Of, quadAt, constantOf, ofVerdict, reasonOf, f64Bits, i32Bits, u32Bits, fxBits, ofQuad, ofNumber, ofBool, ofFactor, f64Leaf, i32Leaf, u32Leaf, fxLeaf, quadLeaf, boolLeaf, equalityLeaf, factorLeaf, answerOf};
+use factor::Factor;
 use leaves::compare::bool_and;
 use leaves::compare::bool_not;
 use leaves::compare::bool_or;
@@ -20,7 +21,7 @@ use leaves::signed;
 use leaves::unsigned;
 use leaves::verdict::Verdict;
 
-// A value by its bits; no value, of a number that is no quad's; the two reasons of a number leaf.
+// A value by its bits; no value, of a number that is no quad's or where there is no factor; the two reasons of a number leaf.
 pub enum Answer {
     Value(u64),
     Absent,
@@ -41,6 +42,7 @@ pub fn compute(leaf: u64, a: u64, b: u64) -> Answer
         5 => quad_leaf(leaf % 16, a, b),
         6 => bool_leaf(leaf % 16, a == 1, b == 1),
         7 => equality(leaf % 16, a, b),
+        8 => factor_leaf(leaf % 16, i32_of(a), i32_of(b)),
         _ => Answer::NoLeaf,
     }
 }
@@ -143,6 +145,17 @@ fn equality(kind: u64, a: u64, b: u64) -> Answer
         return Answer::NoLeaf;
     }
     of_bool(const_eq(constant(kind, a), constant(kind, b)))
+}
+
+// The other factor of a wanted value, the left operand, and a factor, the right one: 1 of a MulFx, 2 of a MulI32.
+fn factor_leaf(leaf: u64, wanted: i32, given: i32) -> Answer
+    ensures { λ r. ⌜ r ≡ factorLeaf leaf wanted given ⌝ }
+{
+    match leaf {
+        1 => of_factor(factor::factor_fx(wanted, given)),
+        2 => of_factor(factor::factor_i32(wanted, given)),
+        _ => Answer::NoLeaf,
+    }
 }
 
 // ---- operands
@@ -268,6 +281,15 @@ fn of_quad(q: Quad) -> Answer
     ensures { λ r. ⌜ r ≡ ofQuad q ⌝ }
 {
     Answer::Value(quad::number_of(q) as u64)
+}
+
+fn of_factor(f: Factor) -> Answer
+    ensures { λ r. ⌜ r ≡ ofFactor f ⌝ }
+{
+    let Factor::Found(x) = f else {
+        return Answer::Absent;
+    };
+    Answer::Value(signed::bits_of(x) as u64)
 }
 
 fn of_bool(b: bool) -> Answer

@@ -35,15 +35,22 @@ unfolding answerOf pick
 returns-7 c = simp (c .equality .ensures, c .before .match .keys7)
 
 returns-8 : tie.Need-returns-8
+unfolding answerOf pick
+returns-8 c = simp (c .factor-leaf .ensures, c .before .i32-of6 .ensures, c .before .before .i32-of5 .ensures, c .before .before .before .match .keys8, toZ-ofZ (fits-i32 (c .before .before .before .before .args .a)), toZ-ofZ (fits-i32 (c .before .before .before .before .args .b)))
+
+returns-9 : tie.Need-returns-9
 unfolding answerOf
-returns-8 c =
+returns-9 c =
     let not = c .match .rest in
-    none-from-1 _ _ (not .0 .0 .0 .0 .0 .0 .1, (not .0 .0 .0 .0 .0 .1, (not .0 .0 .0 .0 .1, (not .0 .0 .0 .1, (not .0 .0 .1, (not .0 .1, (not .1, tt)))))))
+    none-from-1 _ _ (not .0 .0 .0 .0 .0 .0 .0 .1, (not .0 .0 .0 .0 .0 .0 .1, (not .0 .0 .0 .0 .0 .1, (not .0 .0 .0 .0 .1, (not .0 .0 .0 .1, (not .0 .0 .1, (not .0 .1, (not .1, tt))))))))
 
 pub compute-spec : {M : Type 1} → statement M
 compute-spec =
     tie.close
     (tie.spec
+    (λ c κs. search needs)
+    (λ c κs. search needs)
+    (λ c κs. search needs)
     (λ c κs. search needs)
     (λ c κs. search needs)
     (λ c κs. search needs)
@@ -66,4 +73,5 @@ compute-spec =
     returns-5
     returns-6
     returns-7
-    returns-8)
+    returns-8
+    returns-9)
