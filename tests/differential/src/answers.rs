@@ -1,5 +1,6 @@
-//! The answers of the seven operations.
+//! The answers of the operations.
 
+use crate::factors::Leaf;
 use std::fmt;
 
 /// A refusal's number, the function's position and the detail.
@@ -100,6 +101,8 @@ pub trait Operations: Sync {
     fn fuller(&self, image: &[u8], out: &mut [u8]) -> Rewritten;
     /// Document 02's pages, which the Rust doesn't have.
     fn pages(&self, image: &[u8], out: &mut [u8]) -> Reply;
+    /// Document 02's factor that gives a wanted value: the number of the answer.
+    fn factor(&self, leaf: Leaf, wanted: i32, factor: i32, other: &mut i32) -> usize;
 
     fn run(&self, operation: Operation, image: &[u8], out: &mut [u8]) -> Rewritten {
         match operation {

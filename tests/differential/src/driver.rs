@@ -3,6 +3,7 @@
 use crate::answers::{Operation, Operations};
 use crate::cells;
 use crate::compare::{hexadecimal, Difference, GUARD};
+use crate::factors::{self, Leaf, LEAVES, TURNS};
 use crate::generate::{self, Exhaustive, Pairs, NO_OUTPUT};
 use crate::joined::{self, Part};
 use crate::pages::{self, SHAPES};
@@ -27,6 +28,26 @@ pub struct Count {
     pub comparisons: u64,
     /// An image counts once for each subject and each length of the buffer lent for its pages.
     pub pages: u64,
+}
+
+/// What occurred in the factors that were compared.
+#[derive(Debug, Default)]
+pub struct Factors {
+    /// Pairs of edges, and random ones.
+    pub edges: u64,
+    pub random: u64,
+    /// Pairs by what their answers turn on.
+    pub turns: [u64; TURNS.len()],
+}
+
+impl Factors {
+    fn add(&mut self, other: &Factors) {
+        self.edges += other.edges;
+        self.random += other.random;
+        for (sum, count) in self.turns.iter_mut().zip(other.turns) {
+            *sum += count;
+        }
+    }
 }
 
 /// What occurred in the pages that were compared.
@@ -64,18 +85,19 @@ impl Occurred {
 }
 
 /// What was lent: an output, or a buffer for the pages; its length, less the image's or the joined
-/// one's, or less the pages'.
+/// one's, or less the pages'; or a number for a factor.
 #[derive(Debug, Clone, Copy, PartialEq, Eq)]
 pub enum Lent {
     Output(isize),
     Pages(isize),
+    Number,
 }
 
 /// The first difference.
 pub struct Found {
     pub group: &'static str,
     pub subject: &'static str,
-    /// The image, or the two that are joined.
+    /// The image, or the two that are joined; none for a factor.
     pub images: Vec<Vec<u8>>,
     pub lent: Lent,
     pub difference: Difference,
@@ -88,6 +110,7 @@ struct Worker<'a> {
     /// How often each refusal number was the answer.
     refusals: [u64; 27],
     occurred: Occurred,
+    factors: Factors,
     runs: u64,
     entries: u64,
     stop: &'a AtomicBool,
@@ -286,6 +309,46 @@ impl Worker<'_> {
         self.pages(group, &part, &[&image], &near);
     }
 
+    /// Compares the factor that gives a wanted value by another.
+    fn factor(&mut self, group: &'static str, leaf: Leaf, wanted: i32, factor: i32) {
+        let found = factors::model(leaf, wanted, factor);
+        for subject in self.subjects {
+            if let Err(difference) = factors::check(*subject, leaf, wanted, factor, found) {
+                return self.found(group, subject.name(), &[], Lent::Number, difference);
+            }
+        }
+        for (count, (_, turn)) in self.factors.turns.iter_mut().zip(TURNS) {
+            *count += turn(leaf, wanted, factor, found) as u64;
+        }
+    }
+
+    /// This worker's part of the pairs of edges.
+    fn every_edge(&mut self, first: usize, step: usize) {
+        let edges = factors::edges();
+        for &wanted in edges.iter().skip(first).step_by(step) {
+            for &factor in &edges {
+                if self.stopped() {
+                    return;
+                }
+                for leaf in LEAVES {
+                    self.factor("edges", leaf, wanted, factor);
+                    self.factors.edges += 1;
+                }
+            }
+        }
+    }
+
+    /// One round over random pairs.
+    fn factor_round(&mut self) {
+        for _ in 0..1000 {
+            for leaf in LEAVES {
+                let (wanted, factor) = factors::any_pair(&mut self.random, leaf);
+                self.factor("factors", leaf, wanted, factor);
+                self.factors.random += 1;
+            }
+        }
+    }
+
     /// One round over the other random groups.
     fn round(&mut self) {
         for _ in 0..150 {
@@ -386,6 +449,7 @@ pub struct Outcome {
     /// How often each refusal number was the answer.
     pub refusals: [u64; 27],
     pub occurred: Occurred,
+    pub factors: Factors,
     /// Pairs of runs, and the entries of their records.
     pub runs: u64,
     pub entries: u64,
@@ -399,6 +463,8 @@ pub enum Groups {
     All,
     /// Those of images that are joined or cut.
     Joined,
+    /// Those of factors.
+    Factors,
 }
 
 /// The exhaustive groups as a whole, then rounds of the random ones for the rest of
@@ -414,7 +480,7 @@ pub fn compare(
     let deadline = start + Duration::from_secs(seconds);
     let exhaustive = match groups {
         Groups::All => generate::exhaustive(),
-        Groups::Joined => Vec::new(),
+        Groups::Joined | Groups::Factors => Vec::new(),
     };
     let pairs = generate::joined_short();
     let stop = AtomicBool::new(false);
@@ -428,6 +494,7 @@ pub fn compare(
                 counts: Vec::new(),
                 refusals: [0; 27],
                 occurred: Occurred::default(),
+                factors: Factors::default(),
                 runs: 0,
                 entries: 0,
                 stop: &stop,
@@ -435,15 +502,25 @@ pub fn compare(
             };
             let (exhaustive, pairs) = (&exhaustive, &pairs);
             scope.spawn(move || {
+                if groups != Groups::Joined {
+                    worker.every_edge(index, threads);
+                }
                 for group in exhaustive {
                     worker.every_image(group, index, threads);
                 }
-                worker.every_pair(pairs, index, threads);
+                if groups != Groups::Factors {
+                    worker.every_pair(pairs, index, threads);
+                }
                 while !worker.stopped() {
+                    if groups != Groups::Joined {
+                        worker.factor_round();
+                    }
                     if groups == Groups::All {
                         worker.round();
                     }
-                    worker.joined_round();
+                    if groups != Groups::Factors {
+                        worker.joined_round();
+                    }
                     if Instant::now() >= deadline {
                         break;
                     }
@@ -459,6 +536,7 @@ pub fn compare(
         counts: Vec::new(),
         refusals: [0; 27],
         occurred: Occurred::default(),
+        factors: Factors::default(),
         runs: 0,
         entries: 0,
         time: start.elapsed(),
@@ -477,6 +555,7 @@ pub fn compare(
             *sum += count;
         }
         outcome.occurred.add(&worker.occurred);
+        outcome.factors.add(&worker.factors);
         outcome.runs += worker.runs;
         outcome.entries += worker.entries;
     }
@@ -498,7 +577,8 @@ fn count_of<'a>(counts: &'a mut Vec<Count>, name: &'static str) -> &'a mut Count
 const LONG: usize = 16_384;
 const LONG_FOR: Duration = Duration::from_secs(4);
 
-/// The smallest image, or the smallest two, that show the same difference.
+/// The smallest image, or the smallest two, that show the same difference; the pair of a factor as
+/// it is.
 fn smallest(subjects: &Subjects, found: Found) -> Found {
     let deadline = Instant::now() + LONG_FOR;
     let same = |images: &[Vec<u8>]| {
@@ -562,6 +642,7 @@ fn shown(subjects: &Subjects, found: &Found, images: &[Vec<u8>]) -> Option<Diffe
             let length = expected.pages_length(image).saturating_add_signed(more);
             expected.check_pages(*subject, image, &dirty(random, length + 2 * GUARD))
         }
+        Lent::Number => return None,
     };
     differs.err()
 }

@@ -6,6 +6,7 @@ pub mod cells;
 pub mod codec;
 pub mod compare;
 pub mod driver;
+pub mod factors;
 pub mod frontend;
 pub mod generate;
 pub mod joined;

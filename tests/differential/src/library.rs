@@ -2,17 +2,21 @@
 //! Its header is `include/matchdesk.h`.
 
 #[cfg(feature = "library")]
-pub use linked::Library;
+pub use linked::{factor_function, Library};
 
 #[cfg(feature = "library")]
 mod linked {
     use crate::answers::{Checked, Operations, Refusal, Reply, Rewritten, Success};
+    use crate::factors::Leaf;
 
     /// Image and length, and the references to position and detail.
     type Check = unsafe extern "C" fn(*const u8, usize, *mut usize, *mut usize) -> usize;
     /// Image, output, their lengths, and the references to the two numbers.
     type Write =
         unsafe extern "C" fn(*const u8, usize, *mut u8, usize, *mut usize, *mut usize) -> usize;
+
+    /// Wanted value, factor, and the reference to the other.
+    pub type Factor = unsafe extern "C" fn(i32, i32, *mut i32) -> usize;
 
     extern "C" {
         fn matchdesk_image_check(
@@ -67,10 +71,14 @@ mod linked {
             first: *mut usize,
             second: *mut usize,
         ) -> usize;
+        fn matchdesk_factor_fx(wanted: i32, factor: i32, other: *mut i32) -> usize;
+        fn matchdesk_factor_i32(wanted: i32, factor: i32, other: *mut i32) -> usize;
     }
 
     /// What stands behind the references before a call: no answer has it.
     const UNSET: usize = usize::MAX;
+
+    const GUARD: i32 = 0x5A5A_5A5A;
 
     fn refusal(number: usize, position: usize, detail: usize) -> Refusal {
         Refusal {
@@ -117,6 +125,13 @@ mod linked {
         })
     }
 
+    pub fn factor_function(leaf: Leaf) -> Factor {
+        match leaf {
+            Leaf::MulFx => matchdesk_factor_fx,
+            Leaf::MulI32 => matchdesk_factor_i32,
+        }
+    }
+
     pub struct Library;
 
     impl Operations for Library {
@@ -143,6 +158,15 @@ mod linked {
         }
         fn pages(&self, image: &[u8], out: &mut [u8]) -> Reply {
             reply(matchdesk_pages, image, out)
+        }
+        fn factor(&self, leaf: Leaf, wanted: i32, factor: i32, other: &mut i32) -> usize {
+            // Between two numbers that nobody may write.
+            let mut memory = [GUARD, *other, GUARD];
+            let lent = unsafe { memory.as_mut_ptr().add(1) };
+            let number = unsafe { factor_function(leaf)(wanted, factor, lent) };
+            assert_eq!((memory[0], memory[2]), (GUARD, GUARD), "numbers beside what is lent");
+            *other = memory[1];
+            number
         }
     }
 }

@@ -2,8 +2,9 @@
 //! answers; or compares what the printing program writes.
 
 use differential::answers::{Operation, Operations};
-use differential::compare::{self, hexadecimal};
-use differential::driver::{self, Count, Found, Groups, Lent, Occurred, Outcome};
+use differential::compare::{self, hexadecimal, Difference};
+use differential::driver::{self, Count, Factors, Found, Groups, Lent, Occurred, Outcome};
+use differential::factors::{self, TURNS};
 use differential::model::Model;
 use differential::pages::SHAPES;
 use differential::program::{self, Program};
@@ -142,6 +143,12 @@ fn compare(options: &Options) -> Result<String, String> {
     println!("runs: Label 1, Jmp 1, Label 1 differs from what is returned, as it must");
 
     let subjects = subjects();
+    let pairs = factors::check_on_few_bits()
+        .map_err(|error| format!("DIFFERENCE between the model and a search: {error}"))?;
+    println!("factors: {pairs} pairs on few bits, as by a search");
+    search(&subjects, options.seed).map_err(|Difference { what, expected, got }| {
+        format!("DIFFERENCE: {what}\nexpected: {expected}\n{got}")
+    })?;
     let outcome =
         driver::compare(Groups::All, &subjects, options.seed, options.seconds, options.threads);
     report(&outcome);
@@ -150,7 +157,7 @@ fn compare(options: &Options) -> Result<String, String> {
         return Ok(format!(
             "no difference between the original and: {}\n\
              the fuller rewrite: by the model, and by the original as far as it decides\n\
-             the pages: by the model",
+             the pages: by the model; the factors: by the model, and by a search as far as it goes",
             names.join(", ")
         ));
     };
@@ -166,9 +173,31 @@ fn compare(options: &Options) -> Result<String, String> {
     match lent {
         Lent::Output(more) => println!("lent output longer than the image by {more}"),
         Lent::Pages(more) => println!("lent buffer longer than the pages by {more}"),
+        Lent::Number => {}
     }
     println!("expected: {}", difference.expected);
     Err(format!("{subject}: {}", difference.got))
+}
+
+/// Holds the subjects against a search over all i32, for a few pairs.
+fn search(subjects: &[&'static dyn Operations], seed: u64) -> Result<(), Difference> {
+    let pairs = factors::searched_pairs(&mut Random::new(mix(seed)));
+    let found = std::thread::scope(|scope| {
+        let search =
+            |(leaf, wanted, factor)| scope.spawn(move || factors::search(leaf, wanted, factor));
+        pairs.map(search).map(|found| found.join().unwrap())
+    });
+    for ((leaf, wanted, factor), found) in pairs.into_iter().zip(found) {
+        for subject in subjects {
+            factors::check(*subject, leaf, wanted, factor, found).map_err(|difference| {
+                let got = format!("{}: {}", subject.name(), difference.got);
+                Difference { got, ..difference }
+            })?;
+        }
+        let found = found.map_or("none".into(), |found| found.to_string());
+        println!("factors: {leaf:?}, {wanted} by {factor}: {found}, as by a search over all i32");
+    }
+    Ok(())
 }
 
 fn report(outcome: &Outcome) {
@@ -204,6 +233,11 @@ fn report(outcome: &Outcome) {
     let shapes: Vec<String> =
         SHAPES.iter().zip(shapes).map(|((name, _), count)| format!("{name}: {count}")).collect();
     println!("functions on pages  {}", shapes.join(", "));
+    let Factors { edges, random, turns } = &outcome.factors;
+    println!("factors of pairs    edges: {edges}, random: {random}");
+    let turns: Vec<String> =
+        TURNS.iter().zip(turns).map(|((name, _), count)| format!("{name}: {count}")).collect();
+    println!("factors by case     {}", turns.join(", "));
     println!("pairs of runs {}, entries of their records {}", outcome.runs, outcome.entries);
     let seconds = outcome.time.as_secs_f64();
     println!("{seconds:.1} s, {:.0} images a second", total.images as f64 / seconds);

@@ -1,9 +1,10 @@
 //! Document 01's answers and document 02's fuller rewrite, written from the documents on cells
-//! and bytes. Document 02's pages are in `pages.rs`.
+//! and bytes. Document 02's pages are in `pages.rs`, its factors in `factors.rs`.
 
 use crate::answers::{Checked, Operation, Operations, Refusal, Reply, Rewritten, Success};
 use crate::cells::{self, Cell, Function};
 use crate::codec::Form;
+use crate::factors::{self, Leaf};
 use crate::leaves::{self, Computed, Const};
 use crate::legacy_lowering::byte;
 use crate::pages;
@@ -36,6 +37,9 @@ impl Operations for Model {
     }
     fn pages(&self, image: &[u8], out: &mut [u8]) -> Reply {
         pages::answer(image, out)
+    }
+    fn factor(&self, leaf: Leaf, wanted: i32, factor: i32, other: &mut i32) -> usize {
+        factors::answer(factors::model(leaf, wanted, factor), other)
     }
 }
 

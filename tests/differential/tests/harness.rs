@@ -7,6 +7,7 @@ use differential::cells::{self, CELL};
 use differential::codec::{Form, Operand};
 use differential::compare;
 use differential::driver::{self, Groups};
+use differential::factors::Leaf;
 use differential::generate::{
     self, borrow, computed, computed_commands, default_commands, jmp, jmp_if, label, load_i32,
     make_record, one_function, ret, store_var, write,
@@ -748,6 +749,9 @@ impl Operations for Wrong {
             _ => {}
         }
         Ok(success)
+    }
+    fn factor(&self, leaf: Leaf, wanted: i32, factor: i32, other: &mut i32) -> usize {
+        Model.factor(leaf, wanted, factor, other)
     }
 }
 

@@ -4,6 +4,7 @@
 use differential::answers::{Checked, Operation, Operations, Refusal, Reply, Rewritten, Success};
 use differential::cells::{self, Cell, Function, CELL, MAX_EVENTS, MAX_IMAGE, MAX_INSTRS};
 use differential::driver::{self, Groups};
+use differential::factors::Leaf;
 use differential::generate::{
     self, borrow, label, load_i32, one_function, ret, store_var, write, Pairs,
 };
@@ -419,6 +420,9 @@ impl Operations for Wrong {
     }
     fn fuller(&self, image: &[u8], out: &mut [u8]) -> Rewritten {
         self.answer(Fuller, image, out)
+    }
+    fn factor(&self, leaf: Leaf, wanted: i32, factor: i32, other: &mut i32) -> usize {
+        Model.factor(leaf, wanted, factor, other)
     }
 }
 

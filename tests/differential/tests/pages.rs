@@ -5,6 +5,7 @@ use differential::answers::{Checked, Operation, Operations, Refusal, Reply, Rewr
 use differential::cells::{self, Cell, Function, CELL, MAX_IMAGE};
 use differential::compare::{self, GUARD};
 use differential::driver::{self, Groups, Lent};
+use differential::factors::Leaf;
 use differential::generate::{
     self, borrow, computed, load_i32, make_record, one_function, ret, store_var, write,
 };
@@ -460,6 +461,9 @@ impl Operations for Wrong {
     }
     fn pages(&self, image: &[u8], out: &mut [u8]) -> Reply {
         answer(self.0, image, out)
+    }
+    fn factor(&self, leaf: Leaf, wanted: i32, factor: i32, other: &mut i32) -> usize {
+        Model.factor(leaf, wanted, factor, other)
     }
 }
 
