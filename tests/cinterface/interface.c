@@ -312,6 +312,123 @@ static const struct long_pages {
     {"4096*F00700", 4096, {{4095, "function 00007 page 001                                  "}}},
 };
 
+/* Factors, document 02's W14: a wanted value, one factor, the number returned and the other factor. */
+#define LEAST INT32_MIN
+#define MOST INT32_MAX
+static const struct factored {
+    int32_t wanted, factor;
+    size_t number;
+    int32_t other;
+} factored_fx[] = {
+    {2250, 1500, 0, 1500},
+    {1, 1000, 0, 1},
+    {1, 1, 0, 1000},
+    {1, -1, 0, -1000},
+    {-1, 1, 0, -1000},
+    {-1, -1, 0, 1000},
+    /* 0 is given by 0, whatever the factor; by 0 nothing else is */
+    {0, 0, 0, 0},
+    {0, 1, 0, 0},
+    {0, -1000, 0, 0},
+    {0, MOST, 0, 0},
+    {0, LEAST, 0, 0},
+    {1, 0, 36, 0},
+    {-1, 0, 36, 0},
+    {MOST, 0, 36, 0},
+    {LEAST, 0, 36, 0},
+    /* 2,000 times 1 is 2 already, 1,999 times 1 is 1 */
+    {1, 999, 0, 2},
+    {1, 1001, 0, 1},
+    {1, 1999, 0, 1},
+    {1, -1999, 0, -1},
+    {-1, 1999, 0, -1},
+    {-1, -1999, 0, 1},
+    {1, 2000, 36, 0},
+    {1, -2000, 36, 0},
+    {-1, 2000, 36, 0},
+    {-1, -2000, 36, 0},
+    {2, 2000, 0, 1},
+    {2, 1999, 36, 0},
+    {1000, 999, 0, 1002},
+    {1000, 1001, 36, 0},
+    /* the ends, as what is wanted, as a factor and as the other */
+    {LEAST, 1000, 0, LEAST},
+    {LEAST, -1000, 36, 0},
+    {LEAST, 999, 36, 0},
+    {LEAST, 2000, 0, -1073741824},
+    {LEAST, -2000, 0, 1073741824},
+    {LEAST, LEAST, 0, 1000},
+    {LEAST, MOST, 36, 0},
+    {MOST, 1000, 0, MOST},
+    {MOST, -1000, 0, -MOST},
+    {MOST, 999, 36, 0},
+    {MOST, 2000, 36, 0},
+    {MOST, MOST, 0, 1000},
+    {MOST, LEAST, 36, 0},
+    {2147483, LEAST, 0, -1},
+    {-2147483, LEAST, 0, 1},
+    {2147483, MOST, 0, 1},
+    {1, MOST, 36, 0},
+    {2147483, 1, 0, 2147483000},
+    {-2147483, 1, 0, -2147483000},
+    {2147484, 1, 36, 0},
+    {-2147484, 1, 36, 0},
+    /* the least number gives it, or its positive twin would */
+    {-268435456, 125, 0, LEAST},
+    {268435456, -125, 0, LEAST},
+    {268435456, 125, 36, 0},
+    {-268435456, -125, 36, 0},
+}, factored_i32[] = {
+    {42, 7, 0, 6},
+    {42, -7, 0, -6},
+    {0, 0, 0, 0},
+    {0, 1, 0, 0},
+    {0, 2, 0, 0},
+    {0, MOST, 0, 0},
+    {0, LEAST, 0, 0},
+    {1, 0, 36, 0},
+    {-1, 0, 36, 0},
+    {LEAST, 0, 36, 0},
+    /* odd factors have one answer */
+    {1, 1, 0, 1},
+    {1, -1, 0, -1},
+    {-1, -1, 0, 1},
+    {1, 3, 0, -1431655765},
+    {-1, 3, 0, 1431655765},
+    {MOST, 1, 0, MOST},
+    {MOST, -1, 0, -MOST},
+    {MOST, MOST, 0, 1},
+    {1, MOST, 0, MOST},
+    {-1, MOST, 0, -MOST},
+    {LEAST, 1, 0, LEAST},
+    {LEAST, -1, 0, LEAST},
+    {LEAST, 3, 0, LEAST},
+    {LEAST, MOST, 0, LEAST},
+    /* even ones several or none */
+    {1, 2, 36, 0},
+    {-1, 2, 36, 0},
+    {2, 2, 0, 1},
+    {-2, 2, 0, -1},
+    {6, 4, 36, 0},
+    {12, 4, 0, 3},
+    {65536, 65536, 0, 1},
+    {-65536, 65536, 0, -1},
+    {32768, 65536, 36, 0},
+    {1073741824, 1073741824, 0, 1},
+    {-1073741824, 1073741824, 0, -1},
+    {MOST, 2, 36, 0},
+    {MOST, LEAST, 36, 0},
+    {1073741824, LEAST, 36, 0},
+    /* of two that are as near the positive one */
+    {LEAST, 2, 0, 1073741824},
+    {LEAST, -2, 0, 1073741824},
+    {LEAST, 4, 0, 536870912},
+    {LEAST, 1073741824, 0, 2},
+    {LEAST, -1073741824, 0, 2},
+    {LEAST, LEAST, 0, 1},
+};
+
+typedef size_t factor_of(int32_t, int32_t, int32_t *);
 typedef size_t check(const unsigned char *, size_t, size_t *, size_t *);
 typedef size_t operation(const unsigned char *, size_t, unsigned char *, size_t, size_t *, size_t *);
 
@@ -469,6 +586,21 @@ static void try_long_pages(const struct long_pages *p)
         }
 }
 
+/* What is lent is marked in two ways, and stands between two numbers that stay. */
+static void try_factor(const char *function, factor_of *call, const struct factored *f)
+{
+    for (int turn = 0; turn < 2; turn++) {
+        int32_t mark = turn ? ~f->other : f->other ^ 0x5A5A5A5A, lent[3] = {mark, mark, mark};
+        size_t number = call(f->wanted, f->factor, &lent[1]);
+        calls++;
+        if (number != f->number || lent[1] != f->other || lent[0] != mark || lent[2] != mark) {
+            wrong++;
+            printf("%s(%ld, %ld): expected %zu %ld, got %zu %ld%s\n", function, (long)f->wanted, (long)f->factor, f->number, (long)f->other, number,
+                   (long)lent[1], lent[0] != mark || lent[2] != mark ? ", and a number beside it was changed" : "");
+        }
+    }
+}
+
 int main(void)
 {
     for (size_t i = 0; i < sizeof checked / sizeof *checked; i++) {
@@ -510,6 +642,10 @@ int main(void)
     }
     for (size_t i = 0; i < sizeof long_pages / sizeof *long_pages; i++)
         try_long_pages(&long_pages[i]);
+    for (size_t i = 0; i < sizeof factored_fx / sizeof *factored_fx; i++)
+        try_factor("factor_fx", matchdesk_factor_fx, &factored_fx[i]);
+    for (size_t i = 0; i < sizeof factored_i32 / sizeof *factored_i32; i++)
+        try_factor("factor_i32", matchdesk_factor_i32, &factored_i32[i]);
     printf("interface: %u calls, %u wrong\n", calls, wrong);
     return wrong != 0;
 }

@@ -2,6 +2,7 @@
  * How much stack each function takes: it runs on a painted stack, and the paint that is gone is counted. The header's MATCHDESK_STACK must
  * cover it.
  */
+#include <stdint.h>
 #include <ucontext.h>
 
 #include "images.h"
@@ -11,6 +12,7 @@
 static unsigned char stack[1 << 20] __attribute__((aligned(4096)));
 static unsigned char image[LONGEST], out[MATCHDESK_MAX_PAGES];
 static size_t length, number, first, second;
+static int32_t wanted, factor, other;
 static ucontext_t host, guest;
 
 static void image_check(void) { number = matchdesk_image_check(image, length, &first, &second); }
@@ -20,14 +22,23 @@ static void crystalfold(void) { number = matchdesk_crystalfold(image, length, ou
 static void rewrite(void) { number = matchdesk_rewrite(image, length, out, sizeof out, &first, &second); }
 static void rewrite_fuller(void) { number = matchdesk_rewrite_fuller(image, length, out, sizeof out, &first, &second); }
 static void pages(void) { number = matchdesk_pages(image, length, out, sizeof out, &first, &second); }
+static void factor_fx(void) { number = matchdesk_factor_fx(wanted, factor, &other); }
+static void factor_i32(void) { number = matchdesk_factor_i32(wanted, factor, &other); }
 
-static const struct {
+struct function {
     const char *name;
     void (*call)(void);
-} functions[] = {
+};
+
+static const struct function functions[] = {
     {"image_check", image_check}, {"site_check", site_check}, {"cleanup", cleanup}, {"crystalfold", crystalfold},
     {"rewrite", rewrite}, {"rewrite_fuller", rewrite_fuller}, {"pages", pages},
 };
+
+/* These take no image. They are called on every two of the numbers, whether a factor is found or not. */
+static const struct function factors[] = {{"factor_fx", factor_fx}, {"factor_i32", factor_i32}};
+
+static const int32_t numbers[] = {0, 1, -1, 2, 3, 1000, -1999, 2000, 1073741824, 1431655765, INT32_MAX, INT32_MIN};
 
 /* Ret, then 2,047 unreachable cells: 1,024 StoreVars with an activation site or a write site, and a Borrow or Write event for each */
 static void many_sites(void)
@@ -59,6 +70,17 @@ static size_t used(void (*call)(void))
     return sizeof stack - kept;
 }
 
+static size_t deepest_of_factors(void (*call)(void))
+{
+    size_t count = sizeof numbers / sizeof *numbers, deepest = 0;
+    for (size_t i = 0; i < count * count; i++) {
+        wanted = numbers[i / count], factor = numbers[i % count];
+        size_t bytes = used(call);
+        deepest = bytes > deepest ? bytes : deepest;
+    }
+    return deepest;
+}
+
 int main(void)
 {
     static const char *texts[] = {
@@ -82,6 +104,11 @@ int main(void)
             deepest = bytes > deepest ? bytes : deepest;
         }
         printf("stack of %s: %zu bytes\n", functions[f].name, deepest);
+        most = deepest > most ? deepest : most;
+    }
+    for (size_t f = 0; f < sizeof factors / sizeof *factors; f++) {
+        size_t deepest = deepest_of_factors(factors[f].call);
+        printf("stack of %s: %zu bytes\n", factors[f].name, deepest);
         most = deepest > most ? deepest : most;
     }
     printf("stack: at most %zu bytes, %s MATCHDESK_STACK, which is %d\n", most, most <= MATCHDESK_STACK ? "within" : "ABOVE", MATCHDESK_STACK);
