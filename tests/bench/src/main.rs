@@ -1,6 +1,7 @@
 //! Times the original's `run_default_opt_passes` and, with the feature `library`,
-//! the proved rewrites and pages on the same images, in one process.
+//! the proved rewrites and pages on the same images, in one process; and the proved factors.
 
+mod factors;
 mod images;
 #[cfg(feature = "library")]
 mod search;
@@ -75,6 +76,7 @@ fn main() {
         row(time, name, &image);
     }
     println!("ratio: our time divided by the original's, without and with decoding and encoding; `fuller` is the time of the fuller rewrite, `pages` that of the pages");
+    factors::rows(time);
 }
 
 /// Image and output shouldn't start at the same place of a page: writes then look to the
