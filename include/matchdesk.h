@@ -1,15 +1,15 @@
 /*
- * The MatchDesk rewrite: image checks, cleanup, CrystalFold and the two whole rewrites of cell images (docs/FORMAT.md says what an image is), and
- * the pages of an image.
+ * The MatchDesk rewrite: image checks, cleanup, CrystalFold and the two whole rewrites of cell images (docs/FORMAT.md says what an image is), the
+ * pages of an image, and the other factor of a product.
  *
  * Library: target/staticlib/libcapi.a for Linux on x86-64, made by `rt staticlib capi`. Every function is proved to meet its contract
- * (crates/capi/specs/Contracts.antt), for images of all bytes and lengths and outputs of all lengths.
+ * (crates/capi/specs/Contracts.antt), for images of all bytes and lengths, outputs of all lengths and all numbers.
  *
  * What a caller must see to, and no proof covers:
  *
  * - Every pointer is valid for the length given with it, and not NULL even for a length of 0.
- * - What is written (the output, and the two numbers) overlaps with nothing else that the call is lent: the output isn't the image, and the
- *   two numbers are two.
+ * - What is written (the output, and the numbers) overlaps with nothing else that the call is lent: the output isn't the image, and two numbers
+ *   are two.
  * - The floating-point environment is the default one for matchdesk_crystalfold, matchdesk_rewrite and matchdesk_rewrite_fuller: see 'The
  *   floating-point environment' below.
  * - There is room on the stack: MATCHDESK_STACK.
@@ -21,13 +21,14 @@
 #define MATCHDESK_H
 
 #include <stddef.h>
+#include <stdint.h>
 
 #if __STDC_HOSTED__
 #include <fenv.h>
 #endif
 
 /* The version of this interface: it rises when a function is added or an answer changes. */
-#define MATCHDESK_VERSION 5
+#define MATCHDESK_VERSION 6
 
 /* The bytes of a cell. */
 #define MATCHDESK_CELL 16
@@ -45,7 +46,7 @@
 /*
  * A call takes no more stack than this, in bytes, whatever the image. Measured, not proved (tests/cinterface/stack.c paints a stack and looks
  * how far each call went): 21 KiB for matchdesk_cleanup and the two rewrites, 19 KiB for matchdesk_crystalfold, 17 KiB for
- * matchdesk_pages, 14 KiB for matchdesk_site_check, under 1 KiB for matchdesk_image_check. The rest is reserve. The frames have fixed sizes,
+ * matchdesk_pages, 14 KiB for matchdesk_site_check, under 1 KiB for matchdesk_image_check and the factors. The rest is reserve. The frames have fixed sizes,
  * and no function calls itself. What a thread needs for itself comes on top: one made with a stack of 28 KiB could call matchdesk_rewrite, one
  * of 24 KiB could not.
  */
@@ -143,6 +144,28 @@ size_t matchdesk_rewrite_fuller(const unsigned char *image, size_t image_length,
  *   refusal    position, as above; 0 for 30   detail, as above; 0 for 30          every byte as it was
  */
 size_t matchdesk_pages(const unsigned char *image, size_t image_length, unsigned char *out, size_t out_length, size_t *first, size_t *second);
+
+/*
+ * Which factor gives this product? Of all int32_t numbers whose product with `factor` is `wanted`, the one nearest zero, and of two equally near
+ * the positive one. The product is that of the command: MulFx's, the exact product of two counts of thousandths by 1000, truncated toward zero, of
+ * which there is none outside int32_t; MulI32's, modulo 2^32. It doesn't matter which of the two factors is given.
+ *
+ * Returns 0 on success, and else
+ *
+ *   36  no int32_t number gives the wanted product
+ *
+ *              *other
+ *   success    the factor
+ *   refusal    0
+ *
+ * Always written. The wanted product 0 has the factor 0, by 0 too. Neither function searches.
+ */
+
+/* MulFx: 2250 by 1500 is 1500; 1 by 1999 is 1, but by 2000 it is 36; -2147483648 by 1000 is -2147483648, by -1000 it is 36. */
+size_t matchdesk_factor_fx(int32_t wanted, int32_t factor, int32_t *other);
+
+/* MulI32: 1 by 3 is -1431655765; 1 by 2 is 36; -2147483648 by 1073741824 is 2, though -2 gives it as well. */
+size_t matchdesk_factor_i32(int32_t wanted, int32_t factor, int32_t *other);
 
 /*
  * The floating-point environment.
