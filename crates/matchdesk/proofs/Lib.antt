@@ -3,3 +3,6 @@ pub mod Kept
 pub mod Texts
 pub mod Replies
 pub mod Laid
+pub mod Digits
+pub mod Signs
+pub mod ReadBack

@@ -1,5 +1,6 @@
 // The program: reads an image on standard input, does the job that its argument names, and writes what the job says.
 mod input;
+mod number;
 
 ghost use mathlib.Core.Path.{_≡_};
 ghost use Prim.Native.Nat.{_≤_};

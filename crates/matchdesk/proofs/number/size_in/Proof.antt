@@ -1,0 +1,77 @@
+-- `matchdesk::number::size_in` meets its contract.
+use mathlib.Core.Path.{_≡_, sym, _∙_, ap}
+use mathlib.Core.Bool.{true, false}
+use Prim.Native.Nat.{ℕ, _-_}
+use native.Mathlib.Omega.{arith}
+use denote.Ref.{now}
+use lib.ListN.{length, getD}
+use borrow.Author.Tests.{not-true, not-false}
+use Rattle.matchdesk.specs.Numbers.{isDigit}
+use Rattle.matchdesk.proofs.Digits.{digit-bounds, Reading, reading-none, reading-not, reading-past, reading-next, reading-all, size-empty}
+use borrow.Author.Needs.{needs}
+use Rattle.matchdesk.proofs.number.size_in.Statement.{statement}
+use Rattle.matchdesk.proofs.number.size_in.Tie as tie
+
+abbrev Inv-loop : tie.InvT-loop
+Inv-loop digits n₀ i₀ n i = Reading digits n i
+
+abbrev μ-loop : tie.MeasureT-loop
+μ-loop digits n₀ i₀ n i = length digits - i
+
+returns : tie.Need-returns Inv-loop μ-loop
+returns c = size-empty (now (c .before .before .args .digits)) (search needs)
+
+loop-holds : tie.Need-loop-holds Inv-loop μ-loop
+loop-holds c = reading-none (now (c .before .before .args .digits)) (omega arith)
+
+-- what the loop looks at: the byte at its position
+digit-at : (c : tie.Else2 Inv-loop μ-loop) → isDigit (c .before .before .wide .result) ≡ true
+digit-at c = sym (c .before .is-digit .ensures) ∙ not-false _ (c .if2 .left)
+
+returns-2 : tie.Need-returns-2 Inv-loop μ-loop
+returns-2 c =
+    reading-not (c .before .before .before .before .before .loop .inv) (omega arith)
+    (ap isDigit (sym (c .before .before .wide .ensures)) ∙ sym (c .before .is-digit .ensures) ∙ not-true _ (c .if2 .taken))
+
+mul-n : tie.Need-mul-n Inv-loop μ-loop
+mul-n c = record { fits = omega (arith, c .before .before .before .before .before .loop .inv .most) }
+
+sub-n : tie.Need-sub-n Inv-loop μ-loop
+sub-n c = digit-bounds (c .before .before .wide .result) (digit-at c) .0
+
+add-n : tie.Need-add-n Inv-loop μ-loop
+add-n c = record { fits = omega (arith, c .before .before .before .before .before .loop .inv .most, digit-bounds (c .before .before .wide .result) (digit-at c) .1) }
+
+returns-3 : tie.Need-returns-3 Inv-loop μ-loop
+returns-3 c =
+    let w = c .before .before .before .wide .ensures in
+    reading-past (c .before .before .before .before .before .before .loop .inv) (omega arith) (ap isDigit (sym w) ∙ digit-at (c .before)) (rw (← w) (c .if3 .taken))
+
+loop-again : tie.Need-loop-again Inv-loop μ-loop
+loop-again c =
+    let w = c .before .before .before .wide .ensures in
+    rw w (reading-next (c .before .before .before .before .before .before .loop .inv) (omega arith) (ap isDigit (sym w) ∙ digit-at (c .before)) (rw (← w) (c .if3 .left)))
+
+returns-4 : tie.Need-returns-4 Inv-loop μ-loop
+returns-4 c = reading-all (c .before .loop .inv) (omega arith)
+
+pub size-in-spec : {M : Type 1} → statement M
+size-in-spec =
+    tie.close
+    (tie.spec
+    Inv-loop
+    μ-loop
+    returns
+    loop-holds
+    (λ c. search needs)
+    (λ c κs. search needs)
+    (λ c. search needs)
+    (λ c κs. search needs)
+    returns-2
+    mul-n
+    sub-n
+    add-n
+    returns-3
+    (λ c. search needs)
+    loop-again
+    returns-4)
