@@ -6,3 +6,4 @@ pub mod Laid
 pub mod Digits
 pub mod Signs
 pub mod ReadBack
+pub mod Factors

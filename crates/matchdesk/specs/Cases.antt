@@ -1,5 +1,5 @@
 -- Worked: runs of the program: an argument, an image, and what goes to standard output and to standard error; `none` where the argument is no word.
--- Then numbers: what words say, and how numbers are written.
+-- Then numbers, what words say and how they are written; and `factor`, the words of its products and of no numbers.
 use mathlib.Core.Path.{_≡_, refl}
 use mathlib.Core.List.{List, [], _∷_, _++_, map}
 use mathlib.Core.Option.{Option, none, some}
@@ -31,11 +31,15 @@ use Rattle.listing.specs.Places.{ascii}
 use Rattle.listing.specs.Text.{cellLine, rewritesLine, rewrittenText, refusedText, refusalText, goodText}
 use Rattle.pages.specs.Pages.{heading, cellLine as pageLine, pageLines, pagesText}
 use Rattle.matchdesk.specs.Numbers.{numberIn, signed}
-use Rattle.matchdesk.specs.Program.{Texts, onOutput, onError, askedFor, programTexts, rewriteWord, fullerWord, bytesWord, checkWord, pagesWord}
+use Rattle.matchdesk.specs.Program.{Texts, onOutput, onError, askedFor, productFor, programTexts, factorTexts, rewriteWord, fullerWord, bytesWord, checkWord, pagesWord}
 use Rattle.matchdesk.specs.declared.Asked.{Asked}
 use Rattle.matchdesk.specs.declared.Asked.the-variants.{For, Unknown}
 use Rattle.matchdesk.specs.declared.number.Number.{Number}
 use Rattle.matchdesk.specs.declared.number.Number.the-variants.{Value, NoNumber}
+use Rattle.matchdesk.specs.declared.product.Chosen.{Chosen}
+use Rattle.matchdesk.specs.declared.product.Chosen.the-variants.{By, Neither}
+use Rattle.matchdesk.specs.declared.product.Product.{Product}
+use Rattle.matchdesk.specs.declared.product.Product.the-variants.{Fx, I32}
 
 pub doneFor : Asked → List ℕ → Option Texts
 doneFor (For job) image = some (programTexts job image)
@@ -233,3 +237,62 @@ signedCases =
 pub signedWorked : map (λ (c : SignedCase). writes (c .value) (signed (c .value))) signedCases ≡ signedCases
 unfolding signedCases signed decimal
 signedWorked = refl
+
+-- ---- the words of products
+
+pub record ProductCase : Type 0 where
+  pub word : List ℕ
+  pub chosen : Chosen
+
+abbrev pub names : List ℕ → Chosen → ProductCase
+names word chosen = record { word = word; chosen = chosen }
+
+pub productCases : List ProductCase
+productCases =
+    names (ascii "fx") (By Fx)
+    ∷ names (ascii "i32") (By I32)
+    ∷ names [] Neither
+    ∷ names (ascii "f") Neither
+    ∷ names (ascii "fx ") Neither
+    ∷ names (ascii "Fx") Neither
+    ∷ names (ascii "i3") Neither
+    ∷ names (ascii "i320") Neither
+    ∷ names (ascii " i32") Neither
+    ∷ names (ascii "f64") Neither
+    ∷ []
+
+pub productsWorked : map (λ (c : ProductCase). names (c .word) (productFor (c .word))) productCases ≡ productCases
+unfolding productCases productFor
+productsWorked = refl
+
+-- ---- `factor`, of words that are no numbers: the first of them is said
+
+pub record FactorCase : Type 0 where
+  pub product : Product
+  pub wanted : List ℕ
+  pub factor : List ℕ
+  pub texts : Texts
+
+abbrev pub asks : Product → List ℕ → List ℕ → Texts → FactorCase
+asks product wanted factor texts = record { product = product; wanted = wanted; factor = factor; texts = texts }
+
+wantedWrong : Texts
+wantedWrong = onError (ascii "WANTED is no i32: a whole number from -2147483648 to 2147483647" ++ 10 ∷ [])
+
+factorWrong : Texts
+factorWrong = onError (ascii "FACTOR is no i32: a whole number from -2147483648 to 2147483647" ++ 10 ∷ [])
+
+pub factorCases : List FactorCase
+factorCases =
+    asks Fx (ascii "1.5") (ascii "3000") wantedWrong
+    ∷ asks I32 (ascii "2147483648") (ascii "7") wantedWrong
+    ∷ asks I32 [] [] wantedWrong
+    ∷ asks Fx (ascii "x") (ascii "y") wantedWrong
+    ∷ asks Fx (ascii "1500") [] factorWrong
+    ∷ asks Fx (ascii "1500") (ascii "3000 ") factorWrong
+    ∷ asks I32 (ascii "-2147483648") (ascii "-2147483649") factorWrong
+    ∷ []
+
+pub factorsWorked : map (λ (c : FactorCase). asks (c .product) (c .wanted) (c .factor) (factorTexts (c .product) (c .wanted) (c .factor))) factorCases ≡ factorCases
+unfolding factorCases wantedWrong factorWrong factorTexts numberIn
+factorsWorked = refl

@@ -1,23 +1,37 @@
 -- Promise: what the program is asked for, and what it writes to standard output and to standard error for each job. The text of the rewrite's answer is
--- document 01's ('Cells on either edge', the last paragraph); of the fuller rewrite (document 02, W2) it is the same. The pages are document 02's (W1).
-use mathlib.Core.List.{List, [], _∷_}
+-- document 01's ('Cells on either edge', the last paragraph); of the fuller rewrite (document 02, W2) it is the same. The pages are document 02's (W1),
+-- and so is the other factor (W14), which is found without an image.
+use mathlib.Core.List.{List, [], _∷_, _++_}
 use mathlib.Core.Bool.{Bool, true, false, cond, _&&_}
 use Prim.Native.Nat.{ℕ}
+use Prim.Native.String.{String}
 use lib.Dec.{eqb}
+use lib.IntN.{ℤ}
 use lib.ListN.{take}
 use Rattle.cells.specs.Cells.{cells}
 use Rattle.cells.specs.Check.{maxImage}
 use Rattle.crystalfold.specs.declared.rules.RuleSet.the-variants.{Default, Fuller}
 use Rattle.cells.specs.declared.refusal.Checked.{Checked}
 use Rattle.cells.specs.declared.refusal.Checked.the-variants.{Good, Refused as RefusedBy}
+use Rattle.factor.specs.Factor.{factorFx, factorI32}
+use Rattle.factor.specs.declared.Factor.{Factor}
+use Rattle.factor.specs.declared.Factor.the-variants.{Found, NoFactor}
 use Rattle.image.specs.SiteCheck.{siteAnswer}
-use Rattle.listing.specs.Text.{rewrittenText, refusalText, checkedText}
+use Rattle.listing.specs.Places.{ascii}
+use Rattle.listing.specs.Text.{lineFeed, rewrittenText, refusedText, refusalText, checkedText}
 use Rattle.pages.specs.Pages.{pagesText}
 use Rattle.passes.specs.Contracts.{lengthWritten}
 use Rattle.passes.specs.Passes.{passAnswer, passBytes, passOutput}
 use Rattle.passes.specs.declared.Pass.the-variants.{Both}
 use Rattle.passes.specs.declared.Rewrite.{Rewrite}
 use Rattle.passes.specs.declared.Rewrite.the-variants.{Written, Refused}
+use Rattle.matchdesk.specs.Numbers.{numberIn, signed}
+use Rattle.matchdesk.specs.declared.number.Number.{Number}
+use Rattle.matchdesk.specs.declared.number.Number.the-variants.{Value, NoNumber}
+use Rattle.matchdesk.specs.declared.product.Chosen.{Chosen}
+use Rattle.matchdesk.specs.declared.product.Chosen.the-variants.{By, Neither}
+use Rattle.matchdesk.specs.declared.product.Product.{Product}
+use Rattle.matchdesk.specs.declared.product.Product.the-variants.{Fx, I32}
 use Rattle.matchdesk.specs.declared.Asked.{Asked}
 use Rattle.matchdesk.specs.declared.Asked.the-variants.{For, Unknown}
 use Rattle.matchdesk.specs.declared.Job.{Job}
@@ -54,6 +68,16 @@ askedFor word =
     (cond (sameBytes word bytesWord) (For Bytes)
     (cond (sameBytes word checkWord) (For Check)
     (cond (sameBytes word pagesWord) (For Pages) Unknown))))
+
+-- `fx` and `i32`
+abbrev pub fxWord : List ℕ
+fxWord = 102 ∷ 120 ∷ []
+
+abbrev pub i32Word : List ℕ
+i32Word = 105 ∷ 51 ∷ 50 ∷ []
+
+unfoldable pub productFor : List ℕ → Chosen
+productFor word = cond (sameBytes word fxWord) (By Fx) (cond (sameBytes word i32Word) (By I32) Neither)
 
 -- ---- the texts
 
@@ -100,3 +124,28 @@ workAfter (RewriteJob k) image before = passOutput (Both k) image before
 workAfter Bytes image before = passOutput (Both Default) image before
 workAfter Check image before = before
 workAfter Pages image before = before
+
+-- ---- the texts of `factor`
+
+abbrev pub factorBy : Product → ℤ → ℤ → Factor
+factorBy Fx wanted factor = factorFx wanted factor
+factorBy I32 wanted factor = factorI32 wanted factor
+
+-- the factor that is found, in decimal; or document 02's refusal where there is none
+abbrev pub foundText : Factor → List ℕ
+foundText (Found z) = signed z ++ lineFeed ∷ []
+foundText NoFactor = refusedText 36 0 0
+
+-- of a word that is no number, by its name in the usage
+abbrev pub noNumberText : String → List ℕ
+noNumberText name = ascii name ++ ascii " is no i32: a whole number from -2147483648 to 2147483647" ++ lineFeed ∷ []
+
+-- the first of the two words that is none is said
+abbrev pub numbersTexts : Product → Number → Number → Texts
+numbersTexts product NoNumber factor = onError (noNumberText "WANTED")
+numbersTexts product (Value w) NoNumber = onError (noNumberText "FACTOR")
+numbersTexts product (Value w) (Value f) = onOutput (foundText (factorBy product w f))
+
+-- what is written for a product and the words of its two numbers
+unfoldable pub factorTexts : Product → List ℕ → List ℕ → Texts
+factorTexts product wanted factor = numbersTexts product (numberIn wanted) (numberIn factor)

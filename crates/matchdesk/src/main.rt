@@ -1,6 +1,8 @@
-// The program: reads an image on standard input, does the job that its argument names, and writes what the job says.
+// The program: reads an image on standard input, does the job that its argument names, and writes what the job says. Or finds the other
+// factor of a product, by its arguments alone.
 mod input;
 mod number;
+mod product;
 
 ghost use mathlib.Core.Path.{_≡_};
 ghost use Prim.Native.Nat.{_≤_};
@@ -22,6 +24,8 @@ use libc::STDOUT_FILENO;
 use listing::Listed;
 use pages::Paged;
 use passes::Rewrite;
+use product::Chosen;
+use product::Product;
 
 // What the program can do: the text of a rewrite's answer, by a rule set; the rewritten image itself; the site check; the image's pages.
 enum Job {
@@ -49,16 +53,20 @@ const INPUT: usize = MAX_IMAGE + 4096;
 // Bytes of the longest text: the longest pages, 4,179 lines of 58.
 const OUTPUT: usize = 58 * 4179;
 
-// Bytes of the longest line of a refusal.
-const ERROR: usize = 71;
+// Bytes of the longest line: of a refusal.
+const LINE: usize = 71;
+
+// Bytes for the word of a number, which needs no more than 11.
+const NUMBER: usize = 64;
 
 fn main() {
+    if os::arg_count() == 5 {
+        factor_job();
+        return;
+    }
     let asked = argument();
     let Asked::For(job) = asked else {
-        io::write_all(
-            STDERR_FILENO,
-            b"usage: matchdesk [rewrite | fuller | bytes | check | pages] < image\n",
-        );
+        usage();
         return;
     };
     let mut image = input_buffer();
@@ -69,14 +77,25 @@ fn main() {
     };
     let mut work = work_buffer();
     let mut output = output_buffer();
-    let mut error = error_buffer();
+    let mut error = line_buffer();
     let said = run(job, &image[..n], &mut work, &mut output, &mut error);
     let a = said.output;
     let b = said.error;
-    if !io::write_all(STDOUT_FILENO, &output[..a]) {
+    say(&output[..a], &error[..b]);
+}
+
+fn usage() {
+    io::write_all(
+        STDERR_FILENO,
+        b"usage: matchdesk [rewrite | fuller | bytes | check | pages] < image\n       matchdesk factor (fx | i32) WANTED FACTOR\n",
+    );
+}
+
+fn say(output: &[u8], error: &[u8]) {
+    if !io::write_all(STDOUT_FILENO, output) {
         os::fail(b"standard output");
     }
-    io::write_all(STDERR_FILENO, &error[..b]);
+    io::write_all(STDERR_FILENO, error);
 }
 
 // The one argument; without any, the text of the rewrite's answer is asked for. No word is as long as the buffer.
@@ -91,6 +110,38 @@ fn argument() -> Asked {
     let mut word = [0u8; 16];
     let m = os::arg(1, &mut word);
     job_of(&word[..m])
+}
+
+// The four arguments of `factor`. One that is longer than its buffer is answered as the empty word, which is no product and no number.
+fn factor_job() {
+    let mut word = [0u8; 16];
+    let m = os::arg(1, &mut word);
+    if !check::same(&word[..m], b"factor") {
+        usage();
+        return;
+    }
+    let mut name = [0u8; 16];
+    let n = os::arg(2, &mut name);
+    let chosen = product::product_of(&name[..n]);
+    let Chosen::By(product) = chosen else {
+        usage();
+        return;
+    };
+    find(product);
+}
+
+// The factor of a product, by the two words of numbers.
+fn find(product: Product) {
+    let mut wanted = [0u8; NUMBER];
+    let m = os::arg(3, &mut wanted);
+    let mut factor = [0u8; NUMBER];
+    let n = os::arg(4, &mut factor);
+    let mut output = line_buffer();
+    let mut error = line_buffer();
+    let said = product::find_factor(product, &wanted[..m], &factor[..n], &mut output, &mut error);
+    let a = said.output;
+    let b = said.error;
+    say(&output[..a], &error[..b]);
 }
 
 fn job_of(word: &[u8]) -> Asked
@@ -227,8 +278,8 @@ fn output_buffer() -> [u8; OUTPUT]
     [0; OUTPUT]
 }
 
-fn error_buffer() -> [u8; ERROR]
+fn line_buffer() -> [u8; LINE]
     ensures { λ r. ⌜ r ≡ replicate 71 0 ⌝ }
 {
-    [0; ERROR]
+    [0; LINE]
 }
