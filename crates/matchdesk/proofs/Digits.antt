@@ -1,6 +1,6 @@
 -- Digits read from left to right: their size, and the number that a word says.
 use mathlib.Core.Path.{_≡_, refl, sym, _∙_, ap, subst}
-use mathlib.Core.Bool.{Bool, true, false, _&&_}
+use mathlib.Core.Bool.{Bool, true, false}
 use mathlib.Core.List.{List, [], _∷_}
 use Prim.Native.Nat.{ℕ, zero, suc, _+_, _-_, _*_, _≤_, _<_}
 use native.Mathlib.Nat.{le-refl, le-trans}
@@ -12,7 +12,8 @@ use lib.ListN.{length, getD, take, drop, drop-of-length-le}
 use lib.Seq.{drop-cons, take-length}
 use Rattle.cells.proofs.Facts.{by-test, and-true}
 use Rattle.listing.specs.Decimal.{valueFrom, value}
-use Rattle.matchdesk.specs.Numbers.{plus, minus, isDigit, allDigits, withSign, ranged, numberOf, numberIn, sizeUpTo, sizeFrom, sizeIn}
+use Rattle.matchdesk.specs.Numbers.{plus, minus, isDigit, allDigits, withSign, ranged, numberOf, numberIn}
+use Rattle.matchdesk.specs.Sizes.{sizeUpTo, sizeFrom, sizeIn}
 use Rattle.matchdesk.specs.declared.number.Number.{Number}
 use Rattle.matchdesk.specs.declared.number.Number.the-variants.{NoNumber}
 use Rattle.matchdesk.specs.declared.number.Size.{Size}

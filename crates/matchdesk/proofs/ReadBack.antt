@@ -1,17 +1,16 @@
 -- What is written of an i32 is read back as it.
-use mathlib.Core.Path.{_≡_, refl, sym, _∙_, ap}
+use mathlib.Core.Path.{_≡_, refl, _∙_, ap}
 use mathlib.Core.Bool.{Bool, true, false}
 use mathlib.Core.List.{List, [], _∷_}
-use Prim.Native.Nat.{ℕ, suc, _^_, _≤_, _<_}
+use Prim.Native.Nat.{ℕ, suc, _<_}
 use native.Mathlib.Omega.{arith}
-use borrow.Author.Tests.{ltb-true, lt-ltb, le-leb, eq-eqb, ne-eqb}
-use lib.IntN.{ℤ, pos, negsuc}
+use borrow.Author.Tests.{ltb-true, le-leb, ne-eqb}
+use lib.IntN.{pos, negsuc}
 use lib.ListN.{length}
 use Rattle.cells.specs.Lists.{All}
-use Rattle.listing.specs.Decimal.{decimal, value, IsDigit, Numeral}
+use Rattle.listing.specs.Decimal.{decimal, IsDigit, Numeral}
 use Rattle.listing.proofs.Numerals.{decimal-right}
-use Rattle.matchdesk.specs.Numbers.{minus, plus, isDigit, allDigits, isNumeral, withSign, ranged, numberOf, numberIn, signed, ReadBack}
-use Rattle.matchdesk.specs.declared.number.Number.the-variants.{Value}
+use Rattle.matchdesk.specs.Numbers.{minus, plus, isDigit, allDigits, withSign, ranged, numberOf, numberIn, signed, ReadBack}
 
 digit-test : (b : ℕ) → IsDigit b → isDigit b ≡ true
 digit-test b d = rw (le-leb 48 b (d .0), le-leb b 57 (d .1))

@@ -18,7 +18,8 @@ use Rattle.listing.specs.Decimal.{decimal}
 use Rattle.listing.specs.Contracts.{TextWritten}
 use Rattle.listing.proofs.Numerals.{length-decimal}
 use Rattle.listing.proofs.Pieces.{written-next}
-use Rattle.matchdesk.specs.Numbers.{minus, signed, signOf}
+use Rattle.matchdesk.specs.Numbers.{minus, signed}
+use Rattle.matchdesk.specs.Sizes.{signOf}
 
 -- a number that 64 bits hold is what they say
 kept : {x z : ℤ} → natAbs z ≤ 2147483648 → x ≡ z → toZ w64 (ofZ w64 x) ≡ z

@@ -1,17 +1,14 @@
 -- Promise: which i32 a word says, as Rust's `i32::from_str` reads it, and how an i32 is written.
 use mathlib.Core.Path.{_≡_}
 use mathlib.Core.Bool.{Bool, true, false, cond, _&&_}
-use mathlib.Core.List.{List, [], _∷_, _++_}
-use Prim.Native.Nat.{ℕ, suc, _^_}
+use mathlib.Core.List.{List, [], _∷_}
+use Prim.Native.Nat.{ℕ, suc}
 use lib.Dec.{leb, eqb}
 use lib.IntN.{ℤ, pos, negsuc, negℤ}
 use Rattle.leaves.specs.Signed.{inI32}
-use Rattle.listing.specs.Decimal.{decimal, valueFrom, value}
-use Rattle.listing.specs.Text.{lineFeed}
+use Rattle.listing.specs.Decimal.{decimal, value}
 use Rattle.matchdesk.specs.declared.number.Number.{Number}
 use Rattle.matchdesk.specs.declared.number.Number.the-variants.{Value, NoNumber}
-use Rattle.matchdesk.specs.declared.number.Size.{Size}
-use Rattle.matchdesk.specs.declared.number.Size.the-variants.{Is, NoSize}
 
 -- `+` and `-`
 abbrev pub plus : ℕ
@@ -60,25 +57,6 @@ unfoldable pub signed : ℤ → List ℕ
 signed (pos n) = decimal n
 signed (negsuc n) = minus ∷ decimal (suc n)
 
--- what is written is read back
+-- what is written of an i32 is read back as it (proved in matchdesk/proofs/ReadBack.antt)
 abbrev pub ReadBack : Type 0
 ReadBack = (z : ℤ) → inI32 z ≡ true → numberIn (signed z) ≡ Value z
-
--- ---- inner
-
--- a size that an i32 can have, up to 2 ^ 31
-abbrev pub sizeUpTo : ℕ → Size
-sizeUpTo n = cond (leb n (2 ^ 31)) (Is n) NoSize
-
--- the size of digits behind digits that stand for n
-unfoldable pub sizeFrom : ℕ → List ℕ → Size
-sizeFrom n s = cond (allDigits s) (sizeUpTo (valueFrom n s)) NoSize
-
-abbrev pub sizeIn : List ℕ → Size
-sizeIn [] = NoSize
-sizeIn (b ∷ s) = sizeFrom 0 (b ∷ s)
-
--- the sign of a number as it is written
-abbrev pub signOf : ℤ → List ℕ
-signOf (pos n) = []
-signOf (negsuc n) = minus ∷ []

@@ -7,7 +7,8 @@ ghost use lib.ListN.{length};
 ghost use Rattle.io.specs.Counts.{Counts};
 ghost use Rattle.listing.specs.Contracts.{TextWritten};
 ghost use Rattle.listing.specs.Text.{lineFeed};
-ghost use Rattle.matchdesk.specs.Numbers.{isDigit, ranged as «rangedOf», numberOf, numberIn, sizeIn, signOf, signed};
+ghost use Rattle.matchdesk.specs.Numbers.{isDigit, ranged as «rangedOf», numberOf, numberIn, signed};
+ghost use Rattle.matchdesk.specs.Sizes.{sizeIn, signOf};
 use leaves::signed::in_i32;
 use listing::append;
 use listing::put_decimal;
@@ -58,7 +59,7 @@ fn number_of(negative: bool, digits: &[u8]) -> Number
     ranged(n as i64)
 }
 
-// Digits past the greatest size make it no smaller.
+// Stops where the size is past the greatest one: more digits make it no smaller.
 fn size_in(digits: &[u8]) -> Size
     ensures { λ r. ⌜ r ≡ sizeIn (now (digits .entry)) ⌝ }
 {
@@ -68,12 +69,12 @@ fn size_in(digits: &[u8]) -> Size
     let mut n: u64 = 0;
     let mut i: usize = 0;
     while i < digits.len() {
-        let b = wide(digits[i]);
+        let b = digits[i];
         i += 1;
         if !is_digit(b) {
             return Size::NoSize;
         }
-        n = 10 * n + (b - 48);
+        n = 10 * n + wide(b - b'0');
         if GREATEST_SIZE < n {
             return Size::NoSize;
         }
@@ -81,10 +82,10 @@ fn size_in(digits: &[u8]) -> Size
     Size::Is(n)
 }
 
-fn is_digit(b: u64) -> bool
+fn is_digit(b: u8) -> bool
     ensures { λ r. ⌜ r ≡ isDigit b ⌝ }
 {
-    (48 <= b) & (b <= 57)
+    (b'0' <= b) & (b <= b'9')
 }
 
 fn wide(b: u8) -> u64
@@ -103,7 +104,7 @@ fn ranged(z: i64) -> Number
     Number::NoNumber
 }
 
-// An i32 and a line feed, over the start of a buffer.
+// An i32 and a line feed, over the start of a buffer that has room for a sign and the longest decimal.
 pub fn put_i32(z: i32, text: &mut [u8]) -> usize
     requires { ⌜ 22 ≤ length (now text) ⌝ }
     ensures { λ r. ⌜ Counts r (now (text .exit)) ⌝ }
