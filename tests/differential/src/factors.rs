@@ -175,6 +175,20 @@ fn first(gives: impl Fn(i32) -> bool) -> Option<i32> {
     Some(i32::MIN).filter(|least| gives(*least))
 }
 
+/// What another program found by trying every i32 (`tests/factors`): leaf, wanted value, factor, and
+/// the one found.
+pub fn searched() -> Vec<(Leaf, i32, i32, Option<i32>)> {
+    let number = |word: &str| word.parse::<i32>().unwrap();
+    let pair = |line: &str| {
+        let words: Vec<&str> = line.split(' ').collect();
+        let [leaf, wanted, factor, found] = words[..] else { panic!("{line}") };
+        let leaf = if leaf == "fx" { Leaf::MulFx } else { Leaf::MulI32 };
+        let found = Some(found).filter(|found| *found != "none").map(number);
+        (leaf, number(wanted), number(factor), found)
+    };
+    include_str!("../../factors/found.txt").lines().map(pair).collect()
+}
+
 /// The model on few bits against a search, for all pairs. Gives their number.
 pub fn check_on_few_bits() -> Result<u64, String> {
     let mut pairs = 0;
@@ -214,7 +228,7 @@ fn check_all(numbers: Numbers, leaf: Leaf) -> Result<u64, String> {
 }
 
 /// Pairs for a search: of each leaf one that has a factor, and one of any numbers.
-pub fn searched_pairs(random: &mut Random) -> [(Leaf, i32, i32); 4] {
+pub fn pairs_to_search(random: &mut Random) -> [(Leaf, i32, i32); 4] {
     let mut product = |leaf| loop {
         let (x, factor) = (random.bits() as i32, any_length(random));
         if let Some(wanted) = value(leaf, x, factor) {

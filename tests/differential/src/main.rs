@@ -179,21 +179,30 @@ fn compare(options: &Options) -> Result<String, String> {
     Err(format!("{subject}: {}", difference.got))
 }
 
-/// Holds the subjects against a search over all i32, for a few pairs.
+/// Holds the subjects against searches over all i32: for the pairs of `tests/factors`, and for a few
+/// random ones.
 fn search(subjects: &[&'static dyn Operations], seed: u64) -> Result<(), Difference> {
-    let pairs = factors::searched_pairs(&mut Random::new(mix(seed)));
+    let check = |leaf, wanted, factor, found| {
+        subjects.iter().try_for_each(|subject| {
+            factors::check(*subject, leaf, wanted, factor, found).map_err(|difference| {
+                let got = format!("{}: {}", subject.name(), difference.got);
+                Difference { got, ..difference }
+            })
+        })
+    };
+    let searched = factors::searched();
+    for (leaf, wanted, factor, found) in &searched {
+        check(*leaf, *wanted, *factor, *found)?;
+    }
+    println!("factors: {} pairs, as by a search over all i32", searched.len());
+    let pairs = factors::pairs_to_search(&mut Random::new(mix(seed)));
     let found = std::thread::scope(|scope| {
         let search =
             |(leaf, wanted, factor)| scope.spawn(move || factors::search(leaf, wanted, factor));
         pairs.map(search).map(|found| found.join().unwrap())
     });
     for ((leaf, wanted, factor), found) in pairs.into_iter().zip(found) {
-        for subject in subjects {
-            factors::check(*subject, leaf, wanted, factor, found).map_err(|difference| {
-                let got = format!("{}: {}", subject.name(), difference.got);
-                Difference { got, ..difference }
-            })?;
-        }
+        check(leaf, wanted, factor, found)?;
         let found = found.map_or("none".into(), |found| found.to_string());
         println!("factors: {leaf:?}, {wanted} by {factor}: {found}, as by a search over all i32");
     }

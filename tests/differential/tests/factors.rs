@@ -371,32 +371,38 @@ fn by_hand() {
     }
 }
 
-fn read(path: &str) -> String {
-    std::fs::read_to_string(format!("{}/../../{path}", env!("CARGO_MANIFEST_DIR"))).unwrap()
-}
-
 /// The model against the pairs that another program searched over all i32.
 #[test]
 fn by_search() {
     let (mut found, mut none) = (0, 0);
-    for line in read("tests/factors/found.txt").lines() {
-        let words: Vec<&str> = line.split(' ').collect();
-        let [leaf, wanted, factor, answer] = words[..] else { panic!("{line}") };
-        let leaf = if leaf == "fx" { MulFx } else { MulI32 };
-        let number = |word: &str| word.parse::<i32>().unwrap();
-        let expected = if answer == "none" { None } else { Some(number(answer)) };
-        assert_eq!(factors::model(leaf, number(wanted), number(factor)), expected, "{line}");
+    for (leaf, wanted, factor, expected) in factors::searched() {
+        let model = factors::model(leaf, wanted, factor);
+        assert_eq!(model, expected, "{leaf:?} {wanted} by {factor}");
         *if expected.is_some() { &mut found } else { &mut none } += 1;
     }
     assert!(found >= 50 && none >= 50, "{found} {none}");
 }
 
+/// The library, for longer than a full run takes on factors.
+#[cfg(feature = "library")]
+#[test]
+fn the_library() {
+    let library = differential::library::Library;
+    for (leaf, wanted, factor, found) in factors::searched() {
+        factors::check(&library, leaf, wanted, factor, found).unwrap();
+    }
+    let outcome = driver::compare(Groups::Factors, &[&library], 2, 20, 1);
+    assert!(outcome.found.is_none());
+    println!("{} random pairs", outcome.factors.random);
+}
+
 /// The model against the vectors of `cases_leaves`.
 #[test]
 fn by_vectors() {
+    let path = concat!(env!("CARGO_MANIFEST_DIR"), "/../../crates/cases_leaves/data/vectors.txt");
     let bits = |digits| u64::from_str_radix(digits, 16).unwrap() as u32 as i32;
     let (mut leaf, mut rows) = (None, 0);
-    for line in read("crates/cases_leaves/data/vectors.txt").lines() {
+    for line in std::fs::read_to_string(path).unwrap().lines() {
         if let Some(group) = line.strip_prefix("# ") {
             leaf = match &group[..2] {
                 "81" => Some(MulFx),
