@@ -1,6 +1,6 @@
 -- What the search means, of both products.
-use mathlib.Core.Path.{_≡_, refl, sym, _∙_, ap}
-use lib.IntN.{ℤ, pos, _*ℤ_, *ℤ-comm}
+use mathlib.Core.Path.{_≡_, sym, _∙_, ap}
+use lib.IntN.{ℤ, _*ℤ_, *ℤ-comm}
 use lib.Signed.{quotZ}
 use Rattle.leaves.specs.Signed.{wrap, mulI32, checkedAs}
 use Rattle.leaves.specs.Fixed.{fxScale, mulFx}
@@ -10,7 +10,7 @@ use Rattle.leaves.specs.declared.verdict.Verdict.{Verdict}
 use Rattle.leaves.specs.declared.verdict.Verdict.the-variants.{Value}
 use Rattle.factor.specs.Factor.{gives, nearestZero, factorFx, factorI32}
 use Rattle.factor.specs.Claim.{IsFactor, FactorFound, FactorsFoundFx, FactorsFoundI32}
-use Rattle.factor.proofs.Search.{answers-map, answers-one, answers-none, Told, told-fx, told-i32, found, found-only}
+use Rattle.factor.proofs.Search.{answers-map, answers-none, Told, told-fx, told-i32, found, found-only}
 
 either-fx : (a x : ℤ) → mulFx a x ≡ mulFx x a
 unfolding mulFx

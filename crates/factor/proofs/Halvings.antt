@@ -1,7 +1,7 @@
 -- The other factor of a MulI32: the closed form is the search's.
-use mathlib.Core.Path.{_≡_, refl, sym, _∙_, ap, subst}
+use mathlib.Core.Path.{_≡_, refl, sym, _∙_, ap}
 use mathlib.Core.Logic.{_⊎_, inl, inr}
-use mathlib.Core.Bool.{Bool, true, false, cond, _&&_}
+use mathlib.Core.Bool.{true}
 use Prim.Native.Nat.{ℕ, zero, suc, _+_, _-_, _*_, _/_, _%_, _^_, _≤_, _<_}
 use native.Mathlib.Nat.{mod-le, mod-lt, mod-one, mod-eq-of-lt}
 use native.Mathlib.Omega.{arith}
@@ -21,7 +21,7 @@ use Rattle.factor.specs.Factor.{factorI32}
 use Rattle.factor.specs.Claim.{IsFactor, Nearest, Answers}
 use Rattle.factor.specs.Closed.{foundIf, inverseOf, nearestTo, factorModulo, closedI32}
 use Rattle.factor.specs.declared.Factor.{Factor}
-use Rattle.factor.specs.declared.Factor.the-variants.{Found, NoFactor}
+use Rattle.factor.specs.declared.Factor.the-variants.{NoFactor}
 use Rattle.factor.proofs.Search.{by-test, answers-map, told-i32, found-only}
 use Rattle.factor.proofs.Residues.{halve-forth, halve-back, odd-never, inverse-is, whole, solves, solves-only, far, far-is}
 

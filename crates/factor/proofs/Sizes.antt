@@ -1,14 +1,13 @@
 -- A number's bits, its size and its sign.
-use mathlib.Core.Path.{_≡_, refl, sym, _∙_, ap}
+use mathlib.Core.Path.{_≡_, refl, sym}
 use mathlib.Core.Bool.{Bool, true, false, true≢false, Bool·beq}
 use Prim.Native.Nat.{ℕ, zero, suc, _-_, _≤_, _<_}
 use native.Mathlib.Omega.{arith}
 use lib.IntN.{ℤ, pos, negsuc, negℤ, natAbs}
 use lib.Signed.{ltZ}
-use borrow.Author.Tests.{lt-ltb, le-ltb, ne-eqb}
+use borrow.Author.Tests.{lt-ltb, le-ltb}
 use mir.Syntax.{w32}
 use mir.Val.{SFits, ofZ, toZ}
-use mir.Facts.{toZ-ofZ}
 use Rattle.leaves.specs.Signed.{isZero}
 use Rattle.factor.specs.Closed.{foundIf, along}
 use Rattle.factor.specs.declared.Factor.the-variants.{Found, NoFactor}

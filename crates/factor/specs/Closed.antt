@@ -1,7 +1,7 @@
 -- Inner: the same answers without a search, which is what the functions compute. That they are the search's is proved (factor/proofs/Thousandths.antt
 -- and Halvings.antt).
 use Prim.Native.Nat.{ℕ, zero, suc, _+_, _-_, _*_, _/_, _%_, _^_}
-use mathlib.Core.Bool.{Bool, cond, _&&_}
+use mathlib.Core.Bool.{cond, _&&_}
 use lib.Dec.{eqb, leb, ltb}
 use lib.IntN.{ℤ, pos, negsuc, negℤ, natAbs}
 use mir.Syntax.{w32}

@@ -7,3 +7,4 @@ pub mod Digits
 pub mod Signs
 pub mod ReadBack
 pub mod Factors
+pub mod Answered

@@ -8,12 +8,12 @@ use borrow.Author.Tests.{ltb-true}
 use lib.Dec.{T}
 use lib.ListN.{length, take, length-append}
 use lib.IntN.{ℤ, pos, negsuc, negℤ, natAbs, _-ℤ_, +ℤ-idl}
-use lib.Signed.{nonNeg, ltZ}
+use lib.Signed.{ltZ}
 use mir.Syntax.{w32, w64}
-use mir.Val.{Fits, SFits, ofZ, toZ}
+use mir.Val.{SFits, ofZ, toZ}
 use mir.Facts.{toZ-ofZ}
 use Rattle.leaves.proofs.Integers.{fits64}
-use Rattle.leaves.proofs.Ranges.{abs-neg, abs32, small, widened}
+use Rattle.leaves.proofs.Ranges.{abs-neg, small}
 use Rattle.listing.specs.Decimal.{decimal}
 use Rattle.listing.specs.Contracts.{TextWritten}
 use Rattle.listing.proofs.Numerals.{length-decimal}
@@ -48,42 +48,6 @@ module _ (n : ℕ) (h : n ≤ 2147483648) where
 
   pub negative-kept : toZ w64 (ofZ w64 (pos 0 -ℤ toZ w64 (ofZ w64 (pos n)))) ≡ negℤ (pos n)
   negative-kept = kept bound negated
-
--- ---- a number, without its sign
-
--- what a cast of z to usize asks
-abbrev pub Castable : ℤ → Type 0
-Castable z = T (nonNeg z) × Fits w64 (natAbs z)
-
-castable-neg : (z : ℤ) → natAbs z ≤ 2147483648 → ltZ z (pos 0) ≡ true → Castable (negℤ z)
-castable-neg (pos n) h t = let k : n < 0 = ltb-true n 0 t in absurd (omega arith)
-castable-neg (negsuc n) h t = (tt, record { fits = omega arith })
-
-castable-pos : (z : ℤ) → natAbs z ≤ 2147483648 → ltZ z (pos 0) ≡ false → Castable z
-castable-pos (pos n) h t = (tt, record { fits = omega arith })
-castable-pos (negsuc n) h t = absurd (subst T t tt)
-
-module _ (z : ℤ) (h : SFits w32 z) where
-  turned : pos 0 -ℤ toZ w64 (ofZ w64 (toZ w32 (ofZ w32 z))) ≡ negℤ z
-  turned = ap (λ (y : ℤ). pos 0 -ℤ y) (widened h refl) ∙ +ℤ-idl (negℤ z)
-
-  turned-bound : natAbs (negℤ z) ≤ 2147483648
-  turned-bound = omega (arith, abs-neg z, abs32 z h)
-
-  pub turned-held : SFits w64 (pos 0 -ℤ toZ w64 (ofZ w64 (toZ w32 (ofZ w32 z))))
-  turned-held = held turned-bound turned
-
-  turned-kept : toZ w64 (ofZ w64 (pos 0 -ℤ toZ w64 (ofZ w64 (toZ w32 (ofZ w32 z))))) ≡ negℤ z
-  turned-kept = kept turned-bound turned
-
-  pub turned-casts : ltZ (toZ w32 (ofZ w32 z)) (pos 0) ≡ true → Castable (toZ w64 (ofZ w64 (pos 0 -ℤ toZ w64 (ofZ w64 (toZ w32 (ofZ w32 z))))))
-  turned-casts t = subst Castable (sym turned-kept) (castable-neg z (abs32 z h) (simp (toZ-ofZ h) at t))
-
-  pub turned-size : natAbs (toZ w64 (ofZ w64 (pos 0 -ℤ toZ w64 (ofZ w64 (toZ w32 (ofZ w32 z)))))) ≡ natAbs z
-  turned-size = ap natAbs turned-kept ∙ abs-neg z
-
-  pub plain-casts : ltZ (toZ w32 (ofZ w32 z)) (pos 0) ≡ false → Castable (toZ w32 (ofZ w32 z))
-  plain-casts t = subst Castable (sym (toZ-ofZ h)) (castable-pos z (abs32 z h) (simp (toZ-ofZ h) at t))
 
 -- ---- its text
 

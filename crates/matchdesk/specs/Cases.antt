@@ -265,7 +265,7 @@ pub productsWorked : map (λ (c : ProductCase). names (c .word) (productFor (c .
 unfolding productCases productFor
 productsWorked = refl
 
--- ---- `factor`, of words that are no numbers: the first of them is said
+-- ---- `factor`, of words that are no numbers: the first of them is said; and of numbers
 
 pub record FactorCase : Type 0 where
   pub product : Product
@@ -296,3 +296,23 @@ factorCases =
 pub factorsWorked : map (λ (c : FactorCase). asks (c .product) (c .wanted) (c .factor) (factorTexts (c .product) (c .wanted) (c .factor))) factorCases ≡ factorCases
 unfolding factorCases wantedWrong factorWrong factorTexts numberIn
 factorsWorked = refl
+
+-- with an answer; the theorem is in matchdesk/proofs/Answered.antt, since the search isn't computed here
+abbrev pub line : List ℕ → Texts
+line text = onOutput (text ++ 10 ∷ [])
+
+unfoldable pub answeredCases : List FactorCase
+answeredCases =
+    asks Fx (ascii "2250") (ascii "1500") (line (ascii "1500"))
+    ∷ asks Fx (ascii "1") (ascii "1999") (line (ascii "1"))
+    ∷ asks Fx (ascii "1") (ascii "-1999") (line (ascii "-1"))
+    ∷ asks Fx (ascii "1") (ascii "2000") (line (ascii "refused 36 0 0"))
+    ∷ asks Fx (ascii "-0") (ascii "000") (line (ascii "0"))
+    ∷ asks Fx (ascii "5") (ascii "0") (line (ascii "refused 36 0 0"))
+    ∷ asks Fx (ascii "-2147483648") (ascii "+1000") (line (ascii "-2147483648"))
+    ∷ asks Fx (ascii "-2147483648") (ascii "-1000") (line (ascii "refused 36 0 0"))
+    ∷ asks I32 (ascii "-2147483648") (ascii "1073741824") (line (ascii "2"))
+    ∷ asks I32 (ascii "1") (ascii "3") (line (ascii "-1431655765"))
+    ∷ asks I32 (ascii "1") (ascii "2147483647") (line (ascii "2147483647"))
+    ∷ asks I32 (ascii "7") (ascii "2") (line (ascii "refused 36 0 0"))
+    ∷ []

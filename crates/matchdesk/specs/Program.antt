@@ -140,12 +140,12 @@ foundText NoFactor = refusedText 36 0 0
 abbrev pub noNumberText : String → List ℕ
 noNumberText name = ascii name ++ ascii " is no i32: a whole number from -2147483648 to 2147483647" ++ lineFeed ∷ []
 
--- the first of the two words that is none is said
-abbrev pub numbersTexts : Product → Number → Number → Texts
-numbersTexts product NoNumber factor = onError (noNumberText "WANTED")
-numbersTexts product (Value w) NoNumber = onError (noNumberText "FACTOR")
-numbersTexts product (Value w) (Value f) = onOutput (foundText (factorBy product w f))
+-- the first of the two words that is none is said; else what is found for the two numbers
+abbrev pub numbersTexts : (ℤ → ℤ → Factor) → Number → Number → Texts
+numbersTexts find NoNumber factor = onError (noNumberText "WANTED")
+numbersTexts find (Value w) NoNumber = onError (noNumberText "FACTOR")
+numbersTexts find (Value w) (Value f) = onOutput (foundText (find w f))
 
 -- what is written for a product and the words of its two numbers
 unfoldable pub factorTexts : Product → List ℕ → List ℕ → Texts
-factorTexts product wanted factor = numbersTexts product (numberIn wanted) (numberIn factor)
+factorTexts product wanted factor = numbersTexts (factorBy product) (numberIn wanted) (numberIn factor)

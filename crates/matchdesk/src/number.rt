@@ -2,13 +2,13 @@
 ghost use mathlib.Core.Path.{_≡_};
 ghost use mathlib.Core.List.{_++_, _∷_, []};
 ghost use Prim.Native.Nat.{_≤_};
-ghost use lib.IntN.{natAbs};
 ghost use lib.ListN.{length};
 ghost use Rattle.io.specs.Counts.{Counts};
 ghost use Rattle.listing.specs.Contracts.{TextWritten};
 ghost use Rattle.listing.specs.Text.{lineFeed};
 ghost use Rattle.matchdesk.specs.Numbers.{isDigit, ranged as «rangedOf», numberOf, numberIn, signed};
 ghost use Rattle.matchdesk.specs.Sizes.{sizeIn, signOf};
+use factor::size::magnitude;
 use leaves::signed::in_i32;
 use listing::append;
 use listing::put_decimal;
@@ -111,7 +111,7 @@ pub fn put_i32(z: i32, text: &mut [u8]) -> usize
     ensures { λ r. ⌜ TextWritten (signed z ++ lineFeed ∷ []) (now (text .entry)) (now (text .exit)) r ⌝ }
 {
     let a = put_sign(z, text);
-    let b = put_decimal(size_of(z), text, a);
+    let b = put_decimal(magnitude(z) as usize, text, a);
     append(b"\n", text, b)
 }
 
@@ -123,14 +123,4 @@ fn put_sign(z: i32, text: &mut [u8]) -> usize
         return append(b"-", text, 0);
     }
     0
-}
-
-// How far z is from 0.
-fn size_of(z: i32) -> usize
-    ensures { λ r. ⌜ r ≡ natAbs z ⌝ }
-{
-    if z < 0 {
-        return (0 - z as i64) as usize;
-    }
-    z as usize
 }

@@ -1,5 +1,5 @@
 -- `factor::modular::inverse` meets its contract.
-use mathlib.Core.Path.{_≡_, _∙_, ap}
+use mathlib.Core.Path.{_∙_, ap}
 use Prim.Native.Nat.{ℕ}
 use Rattle.factor.specs.Closed.{newtonStep, inverseOf}
 use borrow.Author.Needs.{needs}

@@ -14,13 +14,13 @@ use Rattle.matchdesk.proofs.number.put_i32.Tie as tie
 put-decimal-requires : tie.Need-put-decimal-requires
 put-decimal-requires c κs =
     let p = c .before .before .before .before .put-sign in
-    omega (arith, sign-room (c .before .before .before .before .before .before .before .args .z) (p .ensures), length-decimal (c .before .size-of .result), p .kept)
+    omega (arith, sign-room (c .before .before .before .before .before .before .before .args .z) (p .ensures), length-decimal (c .before .magnitude .result), p .kept)
 
 append-requires : tie.Need-append-requires
 append-requires c κs =
     let s = c .before .before .before .before .before .before .before .before .before .before .before .before in
     let p = c .before .before .before .before .before .before .before .before .before .put-sign in
-    let n = c .before .before .before .before .before .before .size-of in
+    let n = c .before .before .before .before .before .before .magnitude in
     let q = c .before .before .before .before .put-decimal in
     let w = signed-written (s .args .z) (p .ensures) (s .fits .z) (n .ensures) (q .ensures) in
     omega (arith, w .end, length-signed (s .args .z), p .kept, q .kept)
@@ -29,7 +29,7 @@ returns : tie.Need-returns
 returns c =
     let s = c .before .before .before .before .before .before .before .before .before .before .before .before .before .before .before in
     let p = c .before .before .before .before .before .before .before .before .before .before .before .before .put-sign in
-    let n = c .before .before .before .before .before .before .before .before .before .size-of in
+    let n = c .before .before .before .before .before .before .before .before .before .magnitude in
     let q = c .before .before .before .before .before .before .before .put-decimal in
     let v = signed-written (s .args .z) (p .ensures) (s .fits .z) (n .ensures) (q .ensures) in
     let w = written-next v (lineFeed ∷ []) (c .before .before .append .ensures) in
