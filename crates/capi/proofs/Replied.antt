@@ -7,6 +7,8 @@ use mathlib.Core.List.{List}
 use native.Mathlib.Omega.{arith}
 use lib.IntN.{ℤ}
 use lib.ListN.{length}
+use mir.Syntax.{w32}
+use mir.Val.{SFits, ofZ, toZ}
 use Rattle.cells.specs.Refusals.{numbersOf}
 use Rattle.cells.specs.declared.refusal.Refusal.{Refusal}
 use Rattle.cells.specs.declared.refusal.Refusal.the-variants.{Length, Head, UnknownCommand, Operand, OutputTooShort, ActivationSiteRepeated, ActivationSiteOnWrite, ActivationSiteClaimedTwice, ActivationSitesDiffer, WriteSiteRepeated, WriteSiteOnBorrow, WriteWithoutSite, WriteSiteUnclaimed, StoreVarSiteClaimedTwice, WriteSiteUnknown}
@@ -24,6 +26,12 @@ use Rattle.crystalfold.specs.declared.rules.RuleSet.{RuleSet}
 use Rattle.passes.specs.declared.Rewrite.{Rewrite}
 use Rattle.passes.specs.declared.Rewrite.the-variants.{Written, Refused}
 use Rattle.factor.specs.Claim.{FactorFound}
+use Rattle.factor.specs.Factor.{factorFx, factorI32}
+use Rattle.factor.proofs.Claim.{factors-found-fx, factors-found-i32}
+use Rattle.leaves.specs.Fixed.{mulFx}
+use Rattle.leaves.specs.Signed.{mulI32}
+use Rattle.leaves.specs.declared.constant.ConstVal.the-variants.{I32, Fx}
+use Rattle.leaves.proofs.Ranges.{passed}
 use Rattle.factor.specs.declared.Factor.{Factor}
 use Rattle.factor.specs.declared.Factor.the-variants.{Found, NoFactor}
 use Rattle.leaves.specs.declared.constant.ConstVal.{ConstVal}
@@ -103,7 +111,8 @@ pages-replied s before after r q h e = record {
   done = rw (sym (h .answer)) h;
 }
 
--- of a factor, whatever the product
+-- ---- of a factor, whatever the product
+
 right-replied : (product : ℤ → ℤ → Verdict) (wanted : ConstVal) (factor : ℤ) (r : Factor) → FactorFound product wanted factor r
     → FactorReplied product wanted factor r (factorReply r .number) (factorReply r .other)
 right-replied product wanted factor (Found x) h = record {
@@ -119,6 +128,17 @@ right-replied product wanted factor NoFactor h = record {
   refused = ((λ e. h .right), (λ n. refl));
 }
 
-pub factor-replied : (product : ℤ → ℤ → Verdict) (wanted : ConstVal) (factor : ℤ) (r : Factor) (q : FactorReply) {x : ℤ} → x ≡ q .other → q ≡ factorReply r
-    → FactorFound product wanted factor r → FactorReplied product wanted factor r (q .number) x
-factor-replied product wanted factor r q k e h = rw (k, e) (right-replied product wanted factor r h)
+factor-replied : (product : ℤ → ℤ → Verdict) (kind : ℤ → ConstVal) (find : ℤ → ℤ → Factor) → ((w a : ℤ) → FactorFound product (kind w) a (find w a))
+    → {w a x : ℤ} {r : Factor} {q : FactorReply} → SFits w32 w → SFits w32 a
+    → r ≡ find (toZ w32 (ofZ w32 w)) (toZ w32 (ofZ w32 a)) → q ≡ factorReply r → x ≡ q .other → FactorReplied product (kind w) a (find w a) (q .number) x
+factor-replied product kind find right {w} {a} h k e f o =
+    let g = f ∙ ap factorReply (e ∙ passed find w a (h .sfits) (k .sfits)) in
+    rw (o, g) (right-replied product (kind w) a (find w a) (right w a))
+
+pub fx-replied : {w a x : ℤ} {r : Factor} {q : FactorReply} → SFits w32 w → SFits w32 a
+    → r ≡ factorFx (toZ w32 (ofZ w32 w)) (toZ w32 (ofZ w32 a)) → q ≡ factorReply r → x ≡ q .other → FactorReplied mulFx (Fx w) a (factorFx w a) (q .number) x
+fx-replied = factor-replied mulFx Fx factorFx factors-found-fx
+
+pub i32-replied : {w a x : ℤ} {r : Factor} {q : FactorReply} → SFits w32 w → SFits w32 a
+    → r ≡ factorI32 (toZ w32 (ofZ w32 w)) (toZ w32 (ofZ w32 a)) → q ≡ factorReply r → x ≡ q .other → FactorReplied mulI32 (I32 w) a (factorI32 w a) (q .number) x
+i32-replied = factor-replied mulI32 I32 factorI32 factors-found-i32
