@@ -22,6 +22,7 @@ pub mod runs;
 pub mod sample;
 pub mod shrink;
 pub mod table;
+pub mod words;
 
 // `passes`: mod.rs, cleanup.rs and crystalfold.rs, unchanged, from their own folder.
 include!(concat!(env!("OUT_DIR"), "/passes.rs"));

@@ -10,7 +10,7 @@ use differential::pages::SHAPES;
 use differential::program::{self, Program};
 use differential::random::{mix, Random};
 use differential::runs::{self, Outside};
-use differential::{cells, generate, sample, table};
+use differential::{cells, generate, sample, table, words};
 use std::process::ExitCode;
 use std::time::{SystemTime, UNIX_EPOCH};
 
@@ -28,7 +28,7 @@ const USAGE: &str = "\
 usage: [--seed N] [--seconds N] [--threads N]
        [--seed N] --sample FILE
        --replay FILE
-       [--seed N] [--seconds N] --program FILE [--word rewrite|fuller|pages]";
+       [--seed N] [--seconds N] --program FILE [--word rewrite|fuller|pages|factor]";
 
 fn options() -> Result<Options, String> {
     let now = SystemTime::now().duration_since(UNIX_EPOCH).unwrap_or_default();
@@ -78,8 +78,7 @@ fn main() -> ExitCode {
         (_, Some(file), _) => replay(file),
         (_, _, Some(file)) => {
             println!("seed {}", options.seed);
-            Program::new(file, options.word.as_deref())
-                .and_then(|program| program::compare(program, options.seed, options.seconds))
+            program(file, &options)
         }
         _ => compare(&options),
     };
@@ -93,6 +92,19 @@ fn main() -> ExitCode {
             ExitCode::FAILURE
         }
     }
+}
+
+fn program(file: &str, options: &Options) -> Result<String, String> {
+    let Options { seed, seconds, .. } = *options;
+    if options.word.as_deref() == Some("factor") {
+        let counts = words::compare(|words| words::run(file, words), seed, seconds)?;
+        println!("{}", counts.lines());
+        return Ok(format!(
+            "{file}: {} inputs, each with the texts that it must have",
+            counts.inputs
+        ));
+    }
+    program::compare(Program::new(file, options.word.as_deref())?, seed, seconds)
 }
 
 fn replay(file: &str) -> Result<String, String> {
