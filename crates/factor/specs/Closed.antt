@@ -48,7 +48,7 @@ inverseOf a = newtonStep a (newtonStep a (newtonStep a (newtonStep a (newtonStep
 abbrev pub nearestTo : ℕ → ℕ → Factor
 nearestTo m x = cond (leb (x * 2) m && ltb x 2147483648) (foundIf (pos x)) (foundIf (negℤ (pos (m - x))))
 
--- the x nearest zero with a * x = w modulo 2^k: of an odd a by its inverse, else a and w are halved and a bit less is asked of
+-- the x nearest zero with a * x = w modulo 2^k: of an odd a by its inverse; of an even a and w with both halved, modulo half as much
 unfoldable pub factorModulo : ℕ → ℕ → ℕ → Factor
 factorModulo zero w a = Found (pos 0)
 factorModulo (suc k) w a =

@@ -3,11 +3,10 @@ ghost use mathlib.Core.Path.{_≡_};
 ghost use Prim.Native.Nat.{_*_, _%_, _≤_, _<_};
 ghost use Rattle.factor.specs.Closed.{newtonStep, inverseOf, nearestTo, factorModulo};
 use crate::Factor;
+use crate::size::COUNT;
+use crate::size::LEAST;
 use crate::size::above;
 use crate::size::below;
-
-// Two to the power of 32.
-const WHOLE: u64 = 4294967296;
 
 // The x nearest zero whose product with a is w modulo 2^32: all three are halved together until a is odd. At most 32 halvings.
 pub fn factor_modulo(wanted: u32, factor: u32) -> Factor
@@ -15,7 +14,7 @@ pub fn factor_modulo(wanted: u32, factor: u32) -> Factor
 {
     let mut w = wanted as u64;
     let mut a = factor as u64;
-    let mut m = WHOLE;
+    let mut m = COUNT;
     while 1 < m {
         if a % 2 == 1 {
             return nearest(inverse(a) * (w % m) % m, m);
@@ -35,7 +34,7 @@ fn nearest(x: u64, m: u64) -> Factor
     requires { ⌜ (x < m) × (m ≤ 4294967296) ⌝ }
     ensures { λ r. ⌜ r ≡ nearestTo m x ⌝ }
 {
-    if (x * 2 <= m) & (x < 2147483648) {
+    if (x * 2 <= m) & (x < LEAST) {
         return above(x);
     }
     below(m - x)
@@ -54,6 +53,6 @@ fn step(a: u64, y: u64) -> u64
     requires { ⌜ (a < 4294967296) × (y < 4294967296) ⌝ }
     ensures { λ r. ⌜ (r ≡ newtonStep a y) × (r < 4294967296) ⌝ }
 {
-    let minus = (WHOLE + 2 - a * y % WHOLE) % WHOLE;
-    y * minus % WHOLE
+    let minus = (COUNT + 2 - a * y % COUNT) % COUNT;
+    y * minus % COUNT
 }
