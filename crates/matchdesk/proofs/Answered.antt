@@ -15,10 +15,10 @@ use Rattle.leaves.proofs.Ranges.{sfits-in}
 use Rattle.listing.specs.Decimal.{decimal, value}
 use Rattle.listing.specs.Text.{refusedText}
 use Rattle.matchdesk.specs.Cases.{FactorCase, asks, answeredCases}
-use Rattle.matchdesk.specs.Numbers.{plus, minus, isNumeral, withSign, ranged, numberOf, numberIn, signed}
+use Rattle.numbers.specs.Numbers.{plus, minus, isNumeral, withSign, ranged, numberOf, numberIn, signed}
 use Rattle.matchdesk.specs.Program.{onOutput, foundText, factorBy, numbersTexts, factorTexts}
-use Rattle.matchdesk.specs.declared.number.Number.{Number}
-use Rattle.matchdesk.specs.declared.number.Number.the-variants.{Value, NoNumber}
+use Rattle.numbers.specs.declared.Number.{Number}
+use Rattle.numbers.specs.declared.Number.the-variants.{Value, NoNumber}
 use Rattle.matchdesk.specs.declared.product.Product.{Product}
 use Rattle.matchdesk.specs.declared.product.Product.the-variants.{Fx, I32}
 

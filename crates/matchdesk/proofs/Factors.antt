@@ -3,10 +3,10 @@ use mathlib.Core.Path.{_≡_, sym, _∙_}
 use mathlib.Core.List.{List}
 use Prim.Native.Nat.{ℕ}
 use lib.IntN.{ℤ}
-use Rattle.matchdesk.specs.Numbers.{numberIn}
+use Rattle.numbers.specs.Numbers.{numberIn}
 use Rattle.matchdesk.specs.Program.{onOutput, onError, factorBy, foundText, noNumberText, factorTexts}
-use Rattle.matchdesk.specs.declared.number.Number.{Number}
-use Rattle.matchdesk.specs.declared.number.Number.the-variants.{Value, NoNumber}
+use Rattle.numbers.specs.declared.Number.{Number}
+use Rattle.numbers.specs.declared.Number.the-variants.{Value, NoNumber}
 use Rattle.matchdesk.specs.declared.product.Product.{Product}
 
 module _ (product : Product) (wanted factor : List ℕ) {a : Number} (read : a ≡ numberIn wanted) where

@@ -3,8 +3,5 @@ pub mod Kept
 pub mod Texts
 pub mod Replies
 pub mod Laid
-pub mod Digits
-pub mod Signs
-pub mod ReadBack
 pub mod Factors
 pub mod Answered

@@ -25,9 +25,9 @@ use Rattle.passes.specs.Passes.{passAnswer, passBytes, passOutput}
 use Rattle.passes.specs.declared.Pass.the-variants.{Both}
 use Rattle.passes.specs.declared.Rewrite.{Rewrite}
 use Rattle.passes.specs.declared.Rewrite.the-variants.{Written, Refused}
-use Rattle.matchdesk.specs.Numbers.{numberIn, signed}
-use Rattle.matchdesk.specs.declared.number.Number.{Number}
-use Rattle.matchdesk.specs.declared.number.Number.the-variants.{Value, NoNumber}
+use Rattle.numbers.specs.Numbers.{numberIn, signed}
+use Rattle.numbers.specs.declared.Number.{Number}
+use Rattle.numbers.specs.declared.Number.the-variants.{Value, NoNumber}
 use Rattle.matchdesk.specs.declared.product.Chosen.{Chosen}
 use Rattle.matchdesk.specs.declared.product.Chosen.the-variants.{By, Neither}
 use Rattle.matchdesk.specs.declared.product.Product.{Product}

@@ -1,7 +1,6 @@
 // The program: reads an image on standard input, does the job that its argument names, and writes what the job says. Or finds the other
 // factor of a product, by its arguments alone.
 mod input;
-mod number;
 mod product;
 
 ghost use mathlib.Core.Path.{_≡_};

@@ -8,15 +8,15 @@ ghost use Rattle.matchdesk.specs.Program.{productFor, factorBy, foundTex
 ghost use Rattle.matchdesk.specs.Contracts.{Says};
 use crate::Said;
 use crate::length_of;
-use crate::number::Number;
-use crate::number::put_i32;
-use crate::number::read_i32;
 use cells::refusal::Numbers;
 use factor::Factor;
 use factor::factor_fx;
 use factor::factor_i32;
 use listing::append;
 use listing::list_refused;
+use numbers::Number;
+use numbers::put_i32;
+use numbers::read_i32;
 
 // Which product: that of two Fx, or that of two I32.
 pub enum Product {

@@ -1,12 +1,14 @@
 -- `matchdesk::product::put_found` meets its contract.
 use mathlib.Core.Path.{refl}
 use native.Mathlib.Nat.{le-trans}
+use native.Mathlib.Omega.{arith}
 use mir.Syntax.{w32}
 use mir.Val.{SFits}
 use mir.Facts.{toZ-ofZ}
 use Rattle.listing.specs.Text.{refusedText}
 use Rattle.listing.proofs.Whole.{length-refused}
-use Rattle.matchdesk.proofs.Texts.{shown}
+use Rattle.numbers.proofs.Signs.{length-line}
+use Rattle.matchdesk.proofs.Texts.{shown, counted}
 use borrow.Author.Needs.{needs}
 use Rattle.matchdesk.proofs.product.put_found.Statement.{statement}
 use Rattle.matchdesk.proofs.product.put_found.Tie as tie
@@ -14,7 +16,9 @@ use Rattle.matchdesk.proofs.product.put_found.Tie as tie
 returns : tie.Need-returns
 returns c =
     let ok : SFits w32 (c .before .before .before .before .before .found .given .0 .0) = record { sfits = c .before .before .before .before .known-told .given .0 .1 } in
-    rw (c .before .before .before .before .before .found .given .1) (rw (toZ-ofZ ok) at (c .before .before .put-i32 .ensures))
+    let s = c .before .before .before .before .before .before .before .before in
+    let w = rw (toZ-ofZ ok) at (c .before .before .put-i32 .ensures) in
+    rw (c .before .before .before .before .before .found .given .1) (counted w (le-trans (length-line _) (omega arith)), w)
 
 returns-2 : tie.Need-returns-2
 returns-2 c =

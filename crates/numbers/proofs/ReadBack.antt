@@ -10,7 +10,7 @@ use lib.ListN.{length}
 use Rattle.cells.specs.Lists.{All}
 use Rattle.listing.specs.Decimal.{decimal, IsDigit, Numeral}
 use Rattle.listing.proofs.Numerals.{decimal-right}
-use Rattle.matchdesk.specs.Numbers.{minus, plus, isDigit, allDigits, withSign, ranged, numberOf, numberIn, signed, ReadBack}
+use Rattle.numbers.specs.Numbers.{minus, plus, isDigit, allDigits, withSign, ranged, numberOf, numberIn, signed, ReadBack}
 
 digit-test : (b : ℕ) → IsDigit b → isDigit b ≡ true
 digit-test b d = rw (le-leb 48 b (d .0), le-leb b 57 (d .1))

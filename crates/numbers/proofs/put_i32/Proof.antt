@@ -1,15 +1,13 @@
--- `matchdesk::number::put_i32` meets its contract.
+-- `numbers::put_i32` meets its contract.
 use mathlib.Core.List.{[], _∷_}
 use native.Mathlib.Omega.{arith}
-use lib.ListN.{length-append}
 use Rattle.listing.specs.Text.{lineFeed}
 use Rattle.listing.proofs.Numerals.{length-decimal}
 use Rattle.listing.proofs.Pieces.{written-next}
-use Rattle.matchdesk.proofs.Signs.{sign-room, signed-written, length-signed}
-use Rattle.matchdesk.proofs.Texts.{counted}
+use Rattle.numbers.proofs.Signs.{sign-room, signed-written, length-signed}
 use borrow.Author.Needs.{needs}
-use Rattle.matchdesk.proofs.number.put_i32.Statement.{statement}
-use Rattle.matchdesk.proofs.number.put_i32.Tie as tie
+use Rattle.numbers.proofs.put_i32.Statement.{statement}
+use Rattle.numbers.proofs.put_i32.Tie as tie
 
 put-decimal-requires : tie.Need-put-decimal-requires
 put-decimal-requires c κs =
@@ -32,8 +30,7 @@ returns c =
     let n = c .before .before .before .before .before .before .before .before .before .magnitude in
     let q = c .before .before .before .before .before .before .before .put-decimal in
     let v = signed-written (s .args .z) (p .ensures) (s .fits .z) (n .ensures) (q .ensures) in
-    let w = written-next v (lineFeed ∷ []) (c .before .before .append .ensures) in
-    (counted w (simp length-append (omega (arith, length-signed (s .args .z)))), w)
+    written-next v (lineFeed ∷ []) (c .before .before .append .ensures)
 
 pub put-i32-spec : {M : Type 1} → statement M
 put-i32-spec =

@@ -12,12 +12,12 @@ use lib.ListN.{length, getD, take, drop, drop-of-length-le}
 use lib.Seq.{drop-cons, take-length}
 use Rattle.cells.proofs.Facts.{by-test, and-true}
 use Rattle.listing.specs.Decimal.{valueFrom, value}
-use Rattle.matchdesk.specs.Numbers.{plus, minus, isDigit, allDigits, withSign, ranged, numberOf, numberIn}
-use Rattle.matchdesk.specs.Sizes.{sizeUpTo, sizeFrom, sizeIn}
-use Rattle.matchdesk.specs.declared.number.Number.{Number}
-use Rattle.matchdesk.specs.declared.number.Number.the-variants.{NoNumber}
-use Rattle.matchdesk.specs.declared.number.Size.{Size}
-use Rattle.matchdesk.specs.declared.number.Size.the-variants.{Is, NoSize}
+use Rattle.numbers.specs.Numbers.{plus, minus, isDigit, allDigits, withSign, ranged, numberOf, numberIn}
+use Rattle.numbers.specs.Sizes.{sizeUpTo, sizeFrom, sizeIn}
+use Rattle.numbers.specs.declared.Number.{Number}
+use Rattle.numbers.specs.declared.Number.the-variants.{NoNumber}
+use Rattle.numbers.specs.declared.Size.{Size}
+use Rattle.numbers.specs.declared.Size.the-variants.{Is, NoSize}
 
 pub digit-bounds : (b : ℕ) → isDigit b ≡ true → (48 ≤ b) × (b ≤ 57)
 digit-bounds b e = let t = and-true (leb 48 b) (leb b 57) e in (leb-true 48 b (t .0), leb-true b 57 (t .1))

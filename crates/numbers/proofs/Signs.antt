@@ -16,10 +16,11 @@ use Rattle.leaves.proofs.Integers.{fits64}
 use Rattle.leaves.proofs.Ranges.{abs-neg, small}
 use Rattle.listing.specs.Decimal.{decimal}
 use Rattle.listing.specs.Contracts.{TextWritten}
+use Rattle.listing.specs.Text.{lineFeed}
 use Rattle.listing.proofs.Numerals.{length-decimal}
 use Rattle.listing.proofs.Pieces.{written-next}
-use Rattle.matchdesk.specs.Numbers.{minus, signed}
-use Rattle.matchdesk.specs.Sizes.{signOf}
+use Rattle.numbers.specs.Numbers.{minus, signed}
+use Rattle.numbers.specs.Sizes.{signOf}
 
 -- a number that 64 bits hold is what they say
 kept : {x z : ℤ} → natAbs z ≤ 2147483648 → x ≡ z → toZ w64 (ofZ w64 x) ≡ z
@@ -75,8 +76,12 @@ length-sign : (z : ℤ) → length (signOf z) ≤ 1
 length-sign (pos n) = omega arith
 length-sign (negsuc n) = omega arith
 
+-- 21 bytes at most, and 22 with a line feed
 pub length-signed : (z : ℤ) → length (signed z) ≤ 21
 length-signed z = rw (signed-parts z, length-append) (omega (arith, length-sign z, length-decimal (natAbs z)))
+
+pub length-line : (z : ℤ) → length (signed z ++ lineFeed ∷ []) ≤ 22
+length-line z = simp length-append (omega (arith, length-signed z))
 
 -- a sign, and a size behind it, as an i32 has them
 module _ (z : ℤ) {a : ℕ} {before one : List ℕ} (p : TextWritten (signOf (toZ w32 (ofZ w32 z))) before one a) where

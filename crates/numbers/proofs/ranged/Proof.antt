@@ -1,4 +1,4 @@
--- `matchdesk::number::ranged` meets its contract.
+-- `numbers::ranged` meets its contract.
 use mathlib.Core.Path.{_≡_}
 use mathlib.Core.Bool.{true}
 use borrow.Author.Needs.{needs}
@@ -7,8 +7,8 @@ use mir.Val.{SFits}
 use mir.Facts.{toZ-ofZ}
 use Rattle.leaves.specs.Signed.{inI32}
 use Rattle.leaves.proofs.Ranges.{in-i32-says, sfits-in}
-use Rattle.matchdesk.proofs.number.ranged.Statement.{statement}
-use Rattle.matchdesk.proofs.number.ranged.Tie as tie
+use Rattle.numbers.proofs.ranged.Statement.{statement}
+use Rattle.numbers.proofs.ranged.Tie as tie
 
 within : (c : tie.Then1) → inI32 (c .before .before .args .z) ≡ true
 within c = in-i32-says (c .before .before .fits .z) (c .before .in-i32 .ensures) (c .if1 .taken)

@@ -1,10 +1,10 @@
--- `matchdesk::number::read_i32` meets its contract.
+-- `numbers::read_i32` meets its contract.
 use mathlib.Core.Path.{_∙_}
 use denote.Ref.{now}
-use Rattle.matchdesk.proofs.Digits.{word-empty, word-minus, word-plus, word-plain}
+use Rattle.numbers.proofs.Digits.{word-empty, word-minus, word-plus, word-plain}
 use borrow.Author.Needs.{needs}
-use Rattle.matchdesk.proofs.number.read_i32.Statement.{statement}
-use Rattle.matchdesk.proofs.number.read_i32.Tie as tie
+use Rattle.numbers.proofs.read_i32.Statement.{statement}
+use Rattle.numbers.proofs.read_i32.Tie as tie
 
 returns : tie.Need-returns
 returns c = word-empty (now (c .before .before .args .word)) (search needs)

@@ -3,11 +3,10 @@ ghost use mathlib.Core.Path.{_≡_};
 ghost use mathlib.Core.List.{_++_, _∷_, []};
 ghost use Prim.Native.Nat.{_≤_};
 ghost use lib.ListN.{length};
-ghost use Rattle.io.specs.Counts.{Counts};
 ghost use Rattle.listing.specs.Contracts.{TextWritten};
 ghost use Rattle.listing.specs.Text.{lineFeed};
-ghost use Rattle.matchdesk.specs.Numbers.{isDigit, ranged as «rangedOf», numberOf, numberIn, signed};
-ghost use Rattle.matchdesk.specs.Sizes.{sizeIn, signOf};
+ghost use Rattle.numbers.specs.Numbers.{isDigit, ranged as «rangedOf», numberOf, numberIn, signed};
+ghost use Rattle.numbers.specs.Sizes.{sizeIn, signOf};
 use factor::size::magnitude;
 use leaves::signed::in_i32;
 use listing::append;
@@ -107,7 +106,6 @@ fn ranged(z: i64) -> Number
 // An i32 and a line feed, over the start of a buffer that has room for a sign and the longest decimal.
 pub fn put_i32(z: i32, text: &mut [u8]) -> usize
     requires { ⌜ 22 ≤ length (now text) ⌝ }
-    ensures { λ r. ⌜ Counts r (now (text .exit)) ⌝ }
     ensures { λ r. ⌜ TextWritten (signed z ++ lineFeed ∷ []) (now (text .entry)) (now (text .exit)) r ⌝ }
 {
     let a = put_sign(z, text);

@@ -1,10 +1,10 @@
--- `matchdesk::number::put_sign` meets its contract.
+-- `numbers::put_sign` meets its contract.
 use denote.Ref.{now}
 use Rattle.listing.proofs.Pieces.{written-none}
-use Rattle.matchdesk.proofs.Signs.{sign-by-test, none-by-test}
+use Rattle.numbers.proofs.Signs.{sign-by-test, none-by-test}
 use borrow.Author.Needs.{needs}
-use Rattle.matchdesk.proofs.number.put_sign.Statement.{statement}
-use Rattle.matchdesk.proofs.number.put_sign.Tie as tie
+use Rattle.numbers.proofs.put_sign.Statement.{statement}
+use Rattle.numbers.proofs.put_sign.Tie as tie
 
 returns : tie.Need-returns
 returns c =

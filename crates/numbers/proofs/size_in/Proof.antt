@@ -1,4 +1,4 @@
--- `matchdesk::number::size_in` meets its contract.
+-- `numbers::size_in` meets its contract.
 use mathlib.Core.Path.{_≡_, sym, _∙_}
 use mathlib.Core.Bool.{true}
 use Prim.Native.Nat.{ℕ, _-_}
@@ -6,11 +6,11 @@ use native.Mathlib.Omega.{arith}
 use denote.Ref.{now}
 use lib.ListN.{length, getD}
 use borrow.Author.Tests.{not-true, not-false}
-use Rattle.matchdesk.specs.Numbers.{isDigit}
-use Rattle.matchdesk.proofs.Digits.{digit-bounds, Reading, reading-none, reading-not, reading-past, reading-next, reading-all, size-empty}
+use Rattle.numbers.specs.Numbers.{isDigit}
+use Rattle.numbers.proofs.Digits.{digit-bounds, Reading, reading-none, reading-not, reading-past, reading-next, reading-all, size-empty}
 use borrow.Author.Needs.{needs}
-use Rattle.matchdesk.proofs.number.size_in.Statement.{statement}
-use Rattle.matchdesk.proofs.number.size_in.Tie as tie
+use Rattle.numbers.proofs.size_in.Statement.{statement}
+use Rattle.numbers.proofs.size_in.Tie as tie
 
 abbrev Inv-loop : tie.InvT-loop
 Inv-loop digits n₀ i₀ n i = Reading digits n i

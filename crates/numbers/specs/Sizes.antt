@@ -5,9 +5,9 @@ use Prim.Native.Nat.{ℕ, _^_}
 use lib.Dec.{leb}
 use lib.IntN.{ℤ, pos, negsuc}
 use Rattle.listing.specs.Decimal.{valueFrom}
-use Rattle.matchdesk.specs.Numbers.{minus, allDigits}
-use Rattle.matchdesk.specs.declared.number.Size.{Size}
-use Rattle.matchdesk.specs.declared.number.Size.the-variants.{Is, NoSize}
+use Rattle.numbers.specs.Numbers.{minus, allDigits}
+use Rattle.numbers.specs.declared.Size.{Size}
+use Rattle.numbers.specs.declared.Size.the-variants.{Is, NoSize}
 
 -- a size that an i32 can have, up to 2 ^ 31
 abbrev pub sizeUpTo : ℕ → Size

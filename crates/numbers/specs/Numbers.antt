@@ -7,8 +7,8 @@ use lib.Dec.{leb, eqb}
 use lib.IntN.{ℤ, pos, negsuc, negℤ}
 use Rattle.leaves.specs.Signed.{inI32}
 use Rattle.listing.specs.Decimal.{decimal, value}
-use Rattle.matchdesk.specs.declared.number.Number.{Number}
-use Rattle.matchdesk.specs.declared.number.Number.the-variants.{Value, NoNumber}
+use Rattle.numbers.specs.declared.Number.{Number}
+use Rattle.numbers.specs.declared.Number.the-variants.{Value, NoNumber}
 
 -- `+` and `-`
 abbrev pub plus : ℕ
@@ -57,6 +57,6 @@ unfoldable pub signed : ℤ → List ℕ
 signed (pos n) = decimal n
 signed (negsuc n) = minus ∷ decimal (suc n)
 
--- what is written of an i32 is read back as it (proved in matchdesk/proofs/ReadBack.antt)
+-- what is written of an i32 is read back as it (proved in numbers/proofs/ReadBack.antt)
 abbrev pub ReadBack : Type 0
 ReadBack = (z : ℤ) → inI32 z ≡ true → numberIn (signed z) ≡ Value z

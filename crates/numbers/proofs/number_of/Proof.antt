@@ -1,13 +1,13 @@
--- `matchdesk::number::number_of` meets its contract.
+-- `numbers::number_of` meets its contract.
 use mathlib.Core.Path.{_∙_, ap}
 use mathlib.Core.Bool.{true, false}
 use denote.Ref.{now}
-use Rattle.matchdesk.specs.Numbers.{ranged}
-use Rattle.matchdesk.proofs.Digits.{number-none, number-some, number-most}
-use Rattle.matchdesk.proofs.Signs.{size-held, size-kept, negative-held, negative-kept}
+use Rattle.numbers.specs.Numbers.{ranged}
+use Rattle.numbers.proofs.Digits.{number-none, number-some, number-most}
+use Rattle.numbers.proofs.Signs.{size-held, size-kept, negative-held, negative-kept}
 use borrow.Author.Needs.{needs}
-use Rattle.matchdesk.proofs.number.number_of.Statement.{statement}
-use Rattle.matchdesk.proofs.number.number_of.Tie as tie
+use Rattle.numbers.proofs.number_of.Statement.{statement}
+use Rattle.numbers.proofs.number_of.Tie as tie
 
 returns : tie.Need-returns
 returns c = number-none (now (c .before .before .before .before .args .digits)) (c .before .before .size-in .ensures) (c .before .before .before .before .args .negative) (c .enum-told .given .1)
