@@ -1,7 +1,10 @@
 //! Shows that the harness finds wrong factors (document 02, W14), and holds the model's against rows
 //! written out by hand and against searches over all i32.
 
-use differential::answers::{Checked, Operations, Reply, Rewritten};
+#[macro_use]
+mod common;
+
+use differential::answers::{Operations, Reply};
 use differential::driver::{self, Groups, Lent};
 use differential::factors::{self, edges, Leaf, Numbers, I32, LEAVES, NO_FACTOR, TURNS};
 use differential::leaves::{compute, Computed, Const};
@@ -214,27 +217,7 @@ fn factor_with(fault: Fault, leaf: Leaf, wanted: i32, factor: i32) -> Option<i64
 }
 
 impl Operations for Wrong {
-    fn name(&self) -> &'static str {
-        "wrong"
-    }
-    fn image_check(&self, image: &[u8]) -> Checked {
-        Model.image_check(image)
-    }
-    fn site_check(&self, image: &[u8]) -> Checked {
-        Model.site_check(image)
-    }
-    fn cleanup(&self, image: &[u8], out: &mut [u8]) -> Rewritten {
-        Model.cleanup(image, out)
-    }
-    fn crystalfold(&self, image: &[u8], out: &mut [u8]) -> Rewritten {
-        Model.crystalfold(image, out)
-    }
-    fn rewrite(&self, image: &[u8], out: &mut [u8]) -> Rewritten {
-        Model.rewrite(image, out)
-    }
-    fn fuller(&self, image: &[u8], out: &mut [u8]) -> Rewritten {
-        Model.fuller(image, out)
-    }
+    checks_and_rewrites_of_the_model!();
     fn pages(&self, image: &[u8], out: &mut [u8]) -> Reply {
         Model.pages(image, out)
     }

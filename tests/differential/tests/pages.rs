@@ -1,7 +1,10 @@
 //! Shows that the harness finds wrong pages (document 02, W1), and holds the model's against lines
 //! written out by hand.
 
-use differential::answers::{Checked, Operation, Operations, Refusal, Reply, Rewritten};
+#[macro_use]
+mod common;
+
+use differential::answers::{Operation, Operations, Refusal, Reply};
 use differential::cells::{self, Cell, Function, CELL, MAX_IMAGE};
 use differential::compare::{self, GUARD};
 use differential::driver::{self, Groups, Lent};
@@ -438,27 +441,7 @@ fn too_short(fault: Fault, pages: &[u8], out: &mut [u8]) -> Reply {
 }
 
 impl Operations for Wrong {
-    fn name(&self) -> &'static str {
-        "wrong"
-    }
-    fn image_check(&self, image: &[u8]) -> Checked {
-        Model.image_check(image)
-    }
-    fn site_check(&self, image: &[u8]) -> Checked {
-        Model.site_check(image)
-    }
-    fn cleanup(&self, image: &[u8], out: &mut [u8]) -> Rewritten {
-        Model.cleanup(image, out)
-    }
-    fn crystalfold(&self, image: &[u8], out: &mut [u8]) -> Rewritten {
-        Model.crystalfold(image, out)
-    }
-    fn rewrite(&self, image: &[u8], out: &mut [u8]) -> Rewritten {
-        Model.rewrite(image, out)
-    }
-    fn fuller(&self, image: &[u8], out: &mut [u8]) -> Rewritten {
-        Model.fuller(image, out)
-    }
+    checks_and_rewrites_of_the_model!();
     fn pages(&self, image: &[u8], out: &mut [u8]) -> Reply {
         answer(self.0, image, out)
     }

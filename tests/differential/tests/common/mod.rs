@@ -1,0 +1,28 @@
+//! What wrong programs share.
+
+/// In an `impl Operations`: a wrong program whose checks and rewrites are the model's.
+macro_rules! checks_and_rewrites_of_the_model {
+    () => {
+        fn name(&self) -> &'static str {
+            "wrong"
+        }
+        fn image_check(&self, image: &[u8]) -> differential::answers::Checked {
+            Model.image_check(image)
+        }
+        fn site_check(&self, image: &[u8]) -> differential::answers::Checked {
+            Model.site_check(image)
+        }
+        fn cleanup(&self, image: &[u8], out: &mut [u8]) -> differential::answers::Rewritten {
+            Model.cleanup(image, out)
+        }
+        fn crystalfold(&self, image: &[u8], out: &mut [u8]) -> differential::answers::Rewritten {
+            Model.crystalfold(image, out)
+        }
+        fn rewrite(&self, image: &[u8], out: &mut [u8]) -> differential::answers::Rewritten {
+            Model.rewrite(image, out)
+        }
+        fn fuller(&self, image: &[u8], out: &mut [u8]) -> differential::answers::Rewritten {
+            Model.fuller(image, out)
+        }
+    };
+}
