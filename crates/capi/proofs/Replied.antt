@@ -20,6 +20,9 @@ use Rattle.image.specs.Operations.{ImageChecked, SiteChecked}
 use Rattle.pages.specs.Contracts.{isLaid, PagesDone}
 use Rattle.pages.specs.declared.Paged.{Paged}
 use Rattle.pages.specs.declared.Paged.the-variants.{Laid, Refused as RefusedPages, TooShort}
+use Rattle.packed.specs.Operations.{PackDone, UnpackDone, isWritten as isPacked}
+use Rattle.packed.specs.declared.Packing.{Packing}
+use Rattle.packed.specs.declared.Packing.the-variants.{Bytes, Refused as RefusedPacking, Ends}
 use Rattle.passes.specs.Contracts.{isWritten, PassDone, RewriteDone}
 use Rattle.passes.specs.declared.Pass.{Pass}
 use Rattle.crystalfold.specs.declared.rules.RuleSet.{RuleSet}
@@ -36,8 +39,8 @@ use Rattle.factor.specs.declared.Factor.{Factor}
 use Rattle.factor.specs.declared.Factor.the-variants.{Found, NoFactor}
 use Rattle.leaves.specs.declared.constant.ConstVal.{ConstVal}
 use Rattle.leaves.specs.declared.verdict.Verdict.{Verdict}
-use Rattle.capi.specs.Replies.{checkReply, rewriteReply, pagesReply, factorReply}
-use Rattle.capi.specs.Contracts.{ImageReplied, SitesReplied, PassReplied, RewriteReplied, PagesReplied, FactorReplied}
+use Rattle.capi.specs.Replies.{checkReply, rewriteReply, pagesReply, packingReply, factorReply}
+use Rattle.capi.specs.Contracts.{ImageReplied, SitesReplied, PassReplied, RewriteReplied, PagesReplied, PackReplied, UnpackReplied, FactorReplied}
 use Rattle.capi.specs.declared.FactorReply.{FactorReply}
 use Rattle.capi.specs.declared.Reply.{Reply}
 
@@ -72,6 +75,11 @@ pages-zero : (r : Paged) → (pagesReply r .number ≡ 0) ↔ (isLaid r ≡ true
 pages-zero (Laid n) = ((λ e. refl), (λ e. refl))
 pages-zero (RefusedPages x) = ((λ e. absurd (refused x e)), (λ e. absurd (true≢false (sym e))))
 pages-zero TooShort = ((λ e. absurd (omega (arith, e))), (λ e. absurd (true≢false (sym e))))
+
+packing-zero : (r : Packing) → (packingReply r .number ≡ 0) ↔ (isPacked r ≡ true)
+packing-zero (Bytes n) = ((λ e. refl), (λ e. refl))
+packing-zero (RefusedPacking x) = ((λ e. absurd (refused x e)), (λ e. absurd (true≢false (sym e))))
+packing-zero (Ends p d) = ((λ e. absurd (omega (arith, e))), (λ e. absurd (true≢false (sym e))))
 
 -- ---- the promises, for the numbers q of an answer r
 
@@ -109,6 +117,22 @@ pages-replied s before after r q h e = record {
   reply = e ∙ ap pagesReply (h .answer);
   accepted = via e (pages-zero r) (h .accepted);
   done = rw (sym (h .answer)) h;
+}
+
+pub pack-replied : (s before after : List ℕ) (r : Packing) (q : Reply) → PackDone s before after r → q ≡ packingReply r
+    → PackReplied s before after (q .number) (q .first) (q .second)
+pack-replied s before after r q h e = record {
+  reply = e ∙ ap packingReply (h .done .answer);
+  accepted = via e (packing-zero r) (h .accepted);
+  done = rw (sym (h .done .answer)) h;
+}
+
+pub unpack-replied : (s before after : List ℕ) (r : Packing) (q : Reply) → UnpackDone s before after r → q ≡ packingReply r
+    → UnpackReplied s before after (q .number) (q .first) (q .second)
+unpack-replied s before after r q h e = record {
+  reply = e ∙ ap packingReply (h .done .answer);
+  accepted = via e (packing-zero r) (h .accepted);
+  done = rw (sym (h .done .answer)) h;
 }
 
 -- ---- of a factor, whatever the product

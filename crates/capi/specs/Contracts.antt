@@ -10,6 +10,8 @@ use Rattle.image.specs.Image.{imageAnswer, GoodImage}
 use Rattle.image.specs.SiteCheck.{siteAnswer, SitesPass}
 use Rattle.pages.specs.Pages.{pagesText}
 use Rattle.pages.specs.Contracts.{pagesAnswer, PagesDone}
+use Rattle.packed.specs.Form.{packed}
+use Rattle.packed.specs.Operations.{packResult, unpackResult, answerOf, PackDone, PackedImage, UnpackDone}
 use Rattle.passes.specs.Passes.{passAnswer}
 use Rattle.passes.specs.Contracts.{PassDone, RewriteDone}
 use Rattle.passes.specs.declared.Pass.{Pass}
@@ -19,7 +21,7 @@ use Rattle.factor.specs.Claim.{IsFactor, Nearest}
 use Rattle.factor.specs.declared.Factor.{Factor}
 use Rattle.leaves.specs.declared.constant.ConstVal.{ConstVal}
 use Rattle.leaves.specs.declared.verdict.Verdict.{Verdict}
-use Rattle.capi.specs.Replies.{three, checkReply, rewriteReply, pagesReply, two, factorReply}
+use Rattle.capi.specs.Replies.{three, checkReply, rewriteReply, pagesReply, packingReply, two, factorReply}
 
 pub record ImageReplied (s : List ℕ) (number first second : ℕ) : Type 0 where
   pub reply : three number first second ≡ checkReply (imageAnswer s)
@@ -47,6 +49,20 @@ pub record PagesReplied (s before after : List ℕ) (number first second : ℕ) 
   pub accepted : (number ≡ 0) ↔ (SitesPass s × (length (pagesText s) ≤ length before))
   -- every byte of the buffer, and all that `pages` promises
   pub done : PagesDone s before after (pagesAnswer s (length before))
+
+-- the packed form of the image s
+pub record PackReplied (s before after : List ℕ) (number first second : ℕ) : Type 0 where
+  pub reply : three number first second ≡ packingReply (answerOf (packResult s) (length before))
+  pub accepted : (number ≡ 0) ↔ (GoodImage s × (length (packed s) ≤ length before))
+  -- every byte of the output, and all that `pack` promises
+  pub done : PackDone s before after (answerOf (packResult s) (length before))
+
+-- the image of which s is the packed form
+pub record UnpackReplied (s before after : List ℕ) (number first second : ℕ) : Type 0 where
+  pub reply : three number first second ≡ packingReply (answerOf (unpackResult s) (length before))
+  pub accepted : (number ≡ 0) ↔ PackedImage s (length before)
+  -- every byte of the output, and all that `unpack` promises
+  pub done : UnpackDone s before after (answerOf (unpackResult s) (length before))
 
 -- the other factor: of a leaf's product, a wanted value as that leaf has it, a factor and the answer r; `other` is what stands behind the reference
 -- at exit

@@ -10,6 +10,8 @@ use Rattle.passes.specs.declared.Rewrite.{Rewrite}
 use Rattle.passes.specs.declared.Rewrite.the-variants.{Written, Refused}
 use Rattle.pages.specs.declared.Paged.{Paged}
 use Rattle.pages.specs.declared.Paged.the-variants.{Laid, Refused as RefusedPages, TooShort}
+use Rattle.packed.specs.declared.Packing.{Packing}
+use Rattle.packed.specs.declared.Packing.the-variants.{Bytes, Refused as RefusedPacking, Ends}
 use Rattle.factor.specs.declared.Factor.{Factor}
 use Rattle.factor.specs.declared.Factor.the-variants.{Found, NoFactor}
 use Rattle.capi.specs.declared.FactorReply.{FactorReply}
@@ -36,6 +38,13 @@ abbrev pub pagesReply : Paged → Reply
 pagesReply (Laid n) = three 0 n 0
 pagesReply (RefusedPages x) = refusalReply x
 pagesReply TooShort = three 30 0 0
+
+-- the length written, and 0; 32, the function's position and the cell's, where packed bytes end inside a cell or before a promised one (document 02,
+-- W8)
+abbrev pub packingReply : Packing → Reply
+packingReply (Bytes n) = three 0 n 0
+packingReply (RefusedPacking x) = refusalReply x
+packingReply (Ends p d) = three 32 p d
 
 -- the factor; 36, and 0, where no factor gives the wanted value (document 02, W14)
 abbrev pub two : ℕ → ℤ → FactorReply

@@ -2,6 +2,7 @@
 use cells::refusal;
 use cells::refusal::Checked;
 use factor::Factor;
+use packed::Packing;
 use pages::Paged;
 use passes::Rewrite;
 ghost use mathlib.Core.Path.{_≡_};
@@ -11,8 +12,8 @@ ghost use Rattle.factor.specs.Factor.{factorFx, factorI32};
 ghost use Rattle.leaves.specs.Fixed.{mulFx};
 ghost use Rattle.leaves.specs.Signed.{mulI32};
 ghost use Rattle.leaves.specs.declared.constant.ConstVal.the-variants.{I32, Fx};
-ghost use Rattle.capi.specs.Replies.{refusalReply, checkReply, rewriteReply, pagesReply, factorReply};
-ghost use Rattle.capi.specs.Contracts.{ImageReplied, SitesReplied, PassReplied, RewriteReplied, PagesReplied, FactorReplied};
+ghost use Rattle.capi.specs.Replies.{refusalReply, checkReply, rewriteReply, pagesReply, packingReply, factorReply};
+ghost use Rattle.capi.specs.Contracts.{ImageReplied, SitesReplied, PassReplied, RewriteReplied, PagesReplied, PackReplied, UnpackReplied, FactorReplied};
 
 // An answer in three numbers: 0 or the refusal's number, then two more.
 pub struct Reply {
@@ -137,6 +138,38 @@ pub extern "C" fn matchdesk_pages(
     r.number
 }
 
+// The packed form of an image, answered as pages.
+#[no_mangle]
+pub extern "C" fn matchdesk_pack(
+    image: &[u8],
+    out: &mut [u8],
+    first: &mut usize,
+    second: &mut usize,
+) -> usize
+    ensures { λ r. ⌜ PackReplied (now (image .entry)) (now (out .entry)) (now (out .exit)) r (now (first .exit)) (now (second .exit)) ⌝ }
+{
+    let r = reply_of_packing(packed::pack(image, out));
+    *first = r.first;
+    *second = r.second;
+    r.number
+}
+
+// The image of a packed form, answered as pages.
+#[no_mangle]
+pub extern "C" fn matchdesk_unpack(
+    packed: &[u8],
+    out: &mut [u8],
+    first: &mut usize,
+    second: &mut usize,
+) -> usize
+    ensures { λ r. ⌜ UnpackReplied (now (packed .entry)) (now (out .entry)) (now (out .exit)) r (now (first .exit)) (now (second .exit)) ⌝ }
+{
+    let r = reply_of_packing(packed::unpack(packed, out));
+    *first = r.first;
+    *second = r.second;
+    r.number
+}
+
 // The other factor of a MulFx: 0 and the factor; or 36 and 0.
 #[no_mangle]
 pub extern "C" fn matchdesk_factor_fx(wanted: i32, factor: i32, other: &mut i32) -> usize
@@ -210,6 +243,24 @@ fn reply_of_pages(w: Paged) -> Reply
             number: 30,
             first: 0,
             second: 0,
+        },
+    }
+}
+
+fn reply_of_packing(w: Packing) -> Reply
+    ensures { λ r. ⌜ r ≡ packingReply w ⌝ }
+{
+    match w {
+        Packing::Bytes(n) => Reply {
+            number: 0,
+            first: n,
+            second: 0,
+        },
+        Packing::Refused(x) => reply_of_refusal(x),
+        Packing::Ends(position, cell) => Reply {
+            number: 32,
+            first: position,
+            second: cell,
         },
     }
 }

@@ -8,7 +8,7 @@ ghost use mathlib.Core.Path.{_≡_};
 ghost use Prim.Native.Nat.{ℕ, _+_, _≤_, _<_};
 ghost use lib.ListN.{length, drop};
 ghost use Rattle.cells.specs.Bytes.{zeros};
-ghost use Rattle.cells.specs.Table.{widthOf};
+ghost use Rattle.cells.specs.Table.{widthOf, rowOf, total};
 ghost use Rattle.cells.specs.Answers.{unless as «unlessOf»};
 ghost use Rattle.cells.specs.Check.{operandOk, rowOk, present as «presentOf», instructionCheck, eventCheck, headCheck};
 
@@ -80,9 +80,10 @@ pub fn zeros_from(c: &[u8], at: usize) -> bool
     true
 }
 
-// The operands of a row, from the cell's second byte on, and zeros behind them.
+// The operands of a row, from the cell's second byte on, and zeros behind them. (Of a cell's bytes the operands must be there; the bytes behind
+// them need not.)
 pub fn operands_ok(c: &[u8], row: usize) -> bool
-    requires { ⌜ (length (now c) ≡ 16) × (row < 84) ⌝ }
+    requires { ⌜ (1 + total (rowOf row) ≤ length (now c)) × (row < 84) ⌝ }
     ensures { λ r. ⌜ r ≡ rowOk row (now (c .entry)) ⌝ }
 {
     let mut left = table::row_at(row) / 16;
@@ -139,7 +140,7 @@ pub fn check_event(c: &[u8], position: usize, at: usize) -> Checked
 
 // A head with so many cells behind it: its counts are within the limits and within these.
 pub fn check_head(c: &[u8], position: usize, at: usize, after: usize) -> Checked
-    requires { ⌜ length (now c) ≡ 16 ⌝ }
+    requires { ⌜ 7 ≤ length (now c) ⌝ }
     ensures { λ r. ⌜ r ≡ headCheck position at after (now (c .entry)) ⌝ }
 {
     let code = read::half(c, 3);

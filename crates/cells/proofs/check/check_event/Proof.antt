@@ -1,6 +1,10 @@
 -- `cells::check::check_event` meets its contract.
 use mathlib.Core.Path.{sym, _∙_}
+use Prim.Native.Nat.{_<_}
+use native.Mathlib.Omega.{arith}
 use denote.Ref.{now}
+use Rattle.cells.specs.Table.{eventRow}
+use Rattle.cells.proofs.Rows.{row-fits}
 use Rattle.cells.proofs.Checks.{event-kind, event-row}
 use borrow.Author.Needs.{needs}
 use Rattle.cells.proofs.check.check_event.Statement.{statement}
@@ -20,7 +24,12 @@ returns-2 c =
     let a = c .before .before .before .before .before .args in
     c .unless .ensures ∙ event-row (a .position) (a .at) (now (a .c)) _ (c .before .before .if1 .left) (c .before .operands-ok .ensures)
 
+operands-ok-requires : tie.Need-operands-ok-requires
+operands-ok-requires c κs =
+    let h : eventRow < 84 = omega arith in
+    (omega (arith, row-fits eventRow h, c .before .before .before .pre), h)
+
 pub check-event-spec : {M : Type 1} → statement M
 check-event-spec =
     tie.close
-    (tie.spec (λ c. search needs) returns (λ c κs. search needs) (λ c κs. search needs) returns-2)
+    (tie.spec (λ c. search needs) returns operands-ok-requires (λ c κs. search needs) returns-2)

@@ -5,6 +5,7 @@ use native.Mathlib.Omega.{arith}
 use denote.Ref.{now}
 use Rattle.cells.specs.Bytes.{byte}
 use Rattle.cells.specs.Check.{rowOk}
+use Rattle.cells.proofs.Rows.{row-fits}
 use Rattle.cells.proofs.Checks.{instruction-none, instruction-many, instruction-row}
 use borrow.Author.Needs.{needs}
 use Rattle.cells.proofs.check.check_instruction.Statement.{statement}
@@ -36,6 +37,13 @@ returns-3 c =
     let small : byte s 0 ≤ 81 = omega arith in
     c .unless .ensures ∙ instruction-row (a .position) (a .at) s _ some small (c .before .operands-ok .ensures ∙ ap (λ (n : ℕ). rowOk n s) (w .ensures .0))
 
+-- a cell has room for every row
+operands-ok-requires : tie.Need-operands-ok-requires
+operands-ok-requires c κs =
+    let n = c .before .before .wide .result in
+    let h : n < 84 = omega arith in
+    (omega (arith, row-fits n h, c .before .before .before .before .before .pre), h)
+
 pub check-instruction-spec : {M : Type 1} → statement M
 check-instruction-spec =
     tie.close
@@ -44,6 +52,6 @@ check-instruction-spec =
     (λ c κs. search needs)
     returns
     returns-2
-    (λ c κs. search needs)
+    operands-ok-requires
     (λ c κs. search needs)
     returns-3)

@@ -15,7 +15,7 @@ use Rattle.cells.specs.RowNumbers.{packed}
 use Rattle.cells.specs.RowNumbers.{kindOf}
 use Rattle.cells.specs.Check.{operandOk, operandsOk}
 use Rattle.cells.specs.declared.table.Kind.{Kind}
-use Rattle.cells.proofs.Rows.{row-operands, packed-first, packed-rest, packed-some, row-fits}
+use Rattle.cells.proofs.Rows.{row-operands, packed-first, packed-rest, packed-some}
 use Rattle.cells.proofs.check.operands_ok.Statement.{statement}
 use Rattle.cells.proofs.check.operands_ok.Tie as tie
 
@@ -23,16 +23,16 @@ use Rattle.cells.proofs.check.operands_ok.Tie as tie
 record End (c : List ℕ) (row left at : ℕ) : Type 0 where
   ks : List Kind
   is : left ≡ packed ks
-  fits : at + total ks ≤ 16
+  fits : at + total ks ≤ length c
   says : operandsOk (rowOf row) c 1 ≡ operandsOk ks c at
 
 -- what a turn finds at the operand of kind k
 record Turn (c : List ℕ) (row left at : ℕ) (k : Kind) : Type 0 where
-  room : at + widthOf k ≤ 16
+  room : at + widthOf k ≤ length c
   stop : operandOk k c at ≡ false → operandsOk (rowOf row) c 1 ≡ false
   next : (w : ℕ) → w ≡ widthOf k → operandOk k c at ≡ true → End c row (left / 16) (at + w)
 
-turn-of : (c : List ℕ) (row left at : ℕ) (ks : List Kind) → left ≡ packed ks → at + total ks ≤ 16 → operandsOk (rowOf row) c 1 ≡ operandsOk ks c at
+turn-of : (c : List ℕ) (row left at : ℕ) (ks : List Kind) → left ≡ packed ks → at + total ks ≤ length c → operandsOk (rowOf row) c 1 ≡ operandsOk ks c at
     → (left ≡ 0 → ⊥) → (k : Kind) → k ≡ kindOf (left % 16) → Turn c row left at k
 turn-of c row left at [] is fits says some k e = absurd (some is)
 turn-of c row left at (k₁ ∷ ks) is fits says some k e =
@@ -53,12 +53,12 @@ turn : {c : List ℕ} {row left at : ℕ} → End c row left at → (left ≡ 0 
 turn {c} {row} {left} {at} e = turn-of c row left at (e .ks) (e .is) (e .fits) (e .says)
 
 -- nothing is left
-done-of : (c : List ℕ) (row left at : ℕ) (ks : List Kind) → left ≡ packed ks → at + total ks ≤ 16 → operandsOk (rowOf row) c 1 ≡ operandsOk ks c at
-    → left ≡ 0 → (at ≤ 16) × (operandsOk (rowOf row) c 1 ≡ zeros (drop at c))
+done-of : (c : List ℕ) (row left at : ℕ) (ks : List Kind) → left ≡ packed ks → at + total ks ≤ length c → operandsOk (rowOf row) c 1 ≡ operandsOk ks c at
+    → left ≡ 0 → (at ≤ length c) × (operandsOk (rowOf row) c 1 ≡ zeros (drop at c))
 done-of c row left at [] is fits says none = (omega arith, says)
 done-of c row left at (k ∷ ks) is fits says none = absurd (packed-some k ks (sym is ∙ none))
 
-done : {c : List ℕ} {row left at : ℕ} → End c row left at → left ≡ 0 → (at ≤ 16) × (operandsOk (rowOf row) c 1 ≡ zeros (drop at c))
+done : {c : List ℕ} {row left at : ℕ} → End c row left at → left ≡ 0 → (at ≤ length c) × (operandsOk (rowOf row) c 1 ≡ zeros (drop at c))
 done {c} {row} {left} {at} e = done-of c row left at (e .ks) (e .is) (e .fits) (e .says)
 
 abbrev Inv-loop : tie.InvT-loop
@@ -70,7 +70,7 @@ abbrev μ-loop : tie.MeasureT-loop
 loop-holds : tie.Need-loop-holds Inv-loop μ-loop
 loop-holds c =
     let p = c .before .before in
-    record { ks = rowOf (p .args .row); is = ap (λ (n : ℕ). n / 16) (c .row-at .ensures) ∙ row-operands (rowAt (p .args .row)); fits = row-fits (p .args .row) (p .pre .1); says = refl }
+    record { ks = rowOf (p .args .row); is = ap (λ (n : ℕ). n / 16) (c .row-at .ensures) ∙ row-operands (rowAt (p .args .row)); fits = p .pre .0; says = refl }
 
 -- what the turn finds, once its kind is known
 at-kind : (c : tie.After-kind-of Inv-loop μ-loop) → Turn (now (c .before .before .before .before .before .args .c)) (c .before .before .before .before .before .args .row)
@@ -88,7 +88,7 @@ loop-again c =
     at-kind (c .before .before .before) .next (c .width .result) (c .width .ensures) (sym (c .before .before .operand-ok .ensures) ∙ not-false _ (c .before .if1 .left))
 
 zeros-from-requires : tie.Need-zeros-from-requires Inv-loop μ-loop
-zeros-from-requires c κs = omega (arith, done (c .before .loop .inv) (c .loop-test .left) .0, c .before .before .before .before .pre .0)
+zeros-from-requires c κs = done (c .before .loop .inv) (c .loop-test .left) .0
 
 returns-2 : tie.Need-returns-2 Inv-loop μ-loop
 returns-2 c = c .zeros-from .ensures ∙ sym (done (c .before .before .loop .inv) (c .before .loop-test .left) .1)
@@ -102,7 +102,7 @@ operands-ok-spec =
     (λ c κs. omega arith)
     loop-holds
     (λ c κs. tt)
-    (λ c κs. omega (arith, at-kind c .room, c .before .before .before .before .before .pre .0))
+    (λ c κs. at-kind c .room)
     returns
     (λ c κs. tt)
     (λ c. omega (arith, at-kind (c .before .before .before) .room))

@@ -1,0 +1,336 @@
+-- One turn of each loop: the length kept, the bytes kept, the packed cells checked, the cells restored.
+use mathlib.Core.Path.{_≡_, refl, ap, ap₂, sym, _∙_}
+use mathlib.Core.List.{List, [], _∷_, _++_, append-assoc, append-nil}
+use mathlib.Core.Bool.{true, false}
+use Prim.Native.Nat.{ℕ, zero, suc, _+_, _-_, _*_, _/_, _≤_, _<_}
+use native.Mathlib.Numerals.{add-one}
+use native.Mathlib.Omega.{arith}
+use denote.Enum.Declared.{tagOf}
+use types.Run.{OneOf, miss}
+use lib.ListN.{length, getD, take, drop, length-append, length-take, length-drop, drop-of-length-le}
+use lib.Seq.{take-all, take-append-add, take-append-le, length-take-le, drop-cons, drop-drop, drop-at}
+use Rattle.cells.specs.Cells.{Cell, cells, flat}
+use Rattle.cells.specs.declared.refusal.Refusal.the-variants.{Length}
+use Rattle.cells.proofs.Cells.{length-cells, length-flat, part-cell}
+use Rattle.packed.specs.Form.{promise, roleOf, dueBehind, size, keep, packFrom, packed}
+use Rattle.packed.specs.Reading.{Result, bytes, refused, ends, andThen, finished, padded, nextCell, readCell, nextPosition, unpackFrom, unpacked}
+use Rattle.packed.specs.Steps.{NextCell, Room, counted, taken, putKept, putRestored}
+use Rattle.packed.specs.declared.form.Next.{Next}
+use Rattle.packed.specs.declared.form.Role.{Role}
+use Rattle.packed.specs.declared.Packing.{Packing}
+use Rattle.packed.proofs.Packing.{the-type}
+use Rattle.packed.specs.declared.Packing.the-variants.{Bytes, Refused, Ends}
+use Rattle.packed.proofs.Widths.{size-fits, keep-length, next-size, next-rest, next-back, due-kept, right-zeros, cell-length}
+use Rattle.packed.proofs.Walk.{Fine, Read, cell-read, read-is, then-nil, then-then, later, step-done, step-full, step-more}
+use Rattle.packed.proofs.Puts.{put-start, put-length, restored-cell, restored-length, rest-is}
+use Rattle.packed.proofs.Images.{fine-full}
+
+-- ---- the image's cell at i, `&image[16 * i..16 * i + 16]`
+
+abbrev pub cellIn : List ℕ → ℕ → Cell
+cellIn s i = take (16 * i + 16 - 16 * i) (drop (16 * i) s)
+
+pub in-cells : (s : List ℕ) (i : ℕ) → i < length s / 16 → cellIn s i ≡ getD (cells s) i []
+in-cells s i h = part-cell s (16 * i) (16 * i + 16) i refl refl (omega arith)
+
+pub in-full : (s : List ℕ) (i : ℕ) → i < length s / 16 → length (cellIn s i) ≡ 16
+in-full s i h = simp (length-take, length-drop) (omega arith)
+
+-- there is all of it that is kept
+pub in-kept : (r : Role) (s : List ℕ) (i : ℕ) → i < length s / 16 → size r (cellIn s i) ≤ length (cellIn s i)
+in-kept r s i h = omega (arith, in-full s i h, size-fits r (cellIn s i))
+
+module _ (s : List ℕ) (i : ℕ) (c : Cell) (h : i < length s / 16) (is : c ≡ getD (cells s) i []) where
+  cell-there : drop i (cells s) ≡ c ∷ drop (i + 1) (cells s)
+  cell-there =
+      let l : i < length (cells s) = omega (arith, length-cells s) in
+      drop-cons (cells s) i [] l ∙ ap₂ (λ (x : Cell) (j : ℕ). x ∷ drop j (cells s)) (sym is) (sym (add-one i))
+
+  -- what is kept from it on
+  module _ (code events : ℕ) (r : Next) (n : NextCell code events c r) where
+    kept-on : packFrom (promise code events) (drop i (cells s)) ≡ keep (roleOf (promise code events)) c ++ packFrom (promise (r .code) (r .events)) (drop (i + 1) (cells s))
+    kept-on =
+        ap (packFrom (promise code events)) cell-there
+        ∙ ap (λ (due : List Role). keep (roleOf (promise code events)) c ++ packFrom due (drop (i + 1) (cells s))) (sym (n .due))
+
+none-there : (s : List ℕ) (i : ℕ) → length s / 16 ≤ i → drop i (cells s) ≡ []
+none-there s i h = drop-of-length-le (cells s) {i = i} (omega (arith, length-cells s))
+
+-- ---- the length kept
+
+pub record Counting (s : List ℕ) (code events total i : ℕ) : Type 0 where
+  pub says : length (packed s) ≡ total + length (packFrom (promise code events) (drop i (cells s)))
+  pub small : total ≤ 16 * i
+
+pub counting-none : (s : List ℕ) → Counting s 0 0 0 0
+unfolding packed
+counting-none s = record { says = omega arith; small = omega arith }
+
+module _ (s : List ℕ) (code events total i : ℕ) (k : Counting s code events total i) where
+  pub counting-next : (c : Cell) (r : Next) → i < length s / 16 → c ≡ getD (cells s) i [] → length c ≡ 16 → NextCell code events c r
+      → Counting s (r .code) (r .events) (total + r .size) (i + 1)
+  counting-next c r h is full n =
+      let role = roleOf (promise code events) in
+      let e = ap length (kept-on s i c h is code events r n) ∙ length-append (keep role c) (packFrom (promise (r .code) (r .events)) (drop (i + 1) (cells s))) in
+      record { says = omega (arith, k .says, e, keep-length role c full, n .keeps); small = omega (arith, k .small, n .keeps, size-fits role c) }
+
+  pub counting-end : length s / 16 ≤ i → total ≡ length (packed s)
+  counting-end h = omega (arith, k .says, ap (λ (cs : List Cell). length (packFrom (promise code events) cs)) (none-there s i h))
+
+-- ---- a part of an output written, the part `&mut out[at..]`
+
+pub record Put-part (out part b : List ℕ) (at k : ℕ) : Type 0 where
+  pub same : length (take at out ++ (part ++ drop (length out - at) (drop at out))) ≡ length out
+  pub start : take (at + k) (take at out ++ (part ++ drop (length out - at) (drop at out))) ≡ take at out ++ b
+
+pub put-part : (out part b : List ℕ) (at k : ℕ) → at ≤ length out → length part ≡ length (drop at out) → k ≤ length part → take k part ≡ b → Put-part out part b at k
+put-part out part b at k h n l e =
+    let z : drop (length out - at) (drop at out) ≡ [] = drop-of-length-le (drop at out) {i = length out - at} (omega (arith, length-drop at out)) in
+    let f : take at out ++ (part ++ drop (length out - at) (drop at out)) ≡ take at out ++ part = ap (λ (t : List ℕ). take at out ++ t) (ap (λ (t : List ℕ). part ++ t) z ∙ append-nil part) in
+    let m : length (take at out) ≡ at = length-take-le at out h in
+    record {
+      same = ap length f ∙ omega (arith, length-append (take at out) part, length-drop at out);
+      start = ap (take (at + k)) f ∙ ap (λ (j : ℕ). take (j + k) (take at out ++ part)) (sym m) ∙ take-append-add (take at out) part k ∙ ap (λ (t : List ℕ). take at out ++ t) e;
+    }
+
+-- ---- the bytes kept
+
+pub record Keeping (s out : List ℕ) (code events at i : ℕ) : Type 0 where
+  pub says : packed s ≡ take at out ++ packFrom (promise code events) (drop i (cells s))
+  pub long : length out ≡ length (packed s)
+  pub within : at ≤ length out
+
+pub keeping-none : (s out : List ℕ) → length out ≡ length (packed s) → Keeping s out 0 0 0 0
+unfolding packed
+keeping-none s out e = record { says = refl; long = e; within = omega arith }
+
+module _ (s out : List ℕ) (code events at i : ℕ) (k : Keeping s out code events at i) where
+  module _ (c : Cell) (r : Next) (h : i < length s / 16) (is : c ≡ getD (cells s) i []) (full : length c ≡ 16) (n : NextCell code events c r) where
+    -- there is room for what the cell keeps
+    pub keeping-room : at + r .size ≤ length out
+    keeping-room =
+        let role = roleOf (promise code events) in
+        let rest = packFrom (promise (r .code) (r .events)) (drop (i + 1) (cells s)) in
+        let e = ap length (k .says) ∙ length-append (take at out) (packFrom (promise code events) (drop i (cells s))) in
+        let f = ap length (kept-on s i c h is code events r n) ∙ length-append (keep role c) rest in
+        omega (arith, k .long, e, f, length-take-le at out (k .within), keep-length role c full, n .keeps)
+
+    pub keeping-next : (part : List ℕ) → part ≡ putKept c (r .size) (take (length out - at) (drop at out))
+        → Keeping s (take at out ++ (part ++ drop (length out - at) (drop at out))) (r .code) (r .events) (at + r .size) (i + 1)
+    keeping-next part e =
+        let role = roleOf (promise code events) in
+        let few : r .size ≤ 16 = omega (arith, n .keeps, size-fits role c) in
+        let room : r .size ≤ length (drop at out) = omega (arith, keeping-room, length-drop at out) in
+        let p : part ≡ putKept c (r .size) (drop at out) = e ∙ ap (putKept c (r .size)) (rest-is out at) in
+        let l : length part ≡ length (drop at out) = ap length p ∙ put-length c (r .size) (drop at out) full few room in
+        let b : take (r .size) part ≡ keep role c = ap (take (r .size)) p ∙ put-start c (r .size) (drop at out) full few room ∙ ap (λ (j : ℕ). take j c) (n .keeps) in
+        let w = put-part out part (keep role c) at (r .size) (k .within) l (omega arith) b in
+        record {
+          says = k .says ∙ ap (λ (t : List ℕ). take at out ++ t) (kept-on s i c h is code events r n)
+              ∙ sym (append-assoc (take at out) (keep role c) (packFrom (promise (r .code) (r .events)) (drop (i + 1) (cells s))))
+              ∙ ap (λ (t : List ℕ). t ++ packFrom (promise (r .code) (r .events)) (drop (i + 1) (cells s))) (sym (w .start));
+          long = w .same ∙ k .long;
+          within = omega (arith, w .same, keeping-room);
+        }
+
+  pub keeping-end : length s / 16 ≤ i → out ≡ packed s
+  keeping-end h =
+      let e : packed s ≡ take at out = k .says ∙ ap (λ (cs : List Cell). take at out ++ packFrom (promise code events) cs) (none-there s i h) ∙ append-nil (take at out) in
+      let l : length out ≤ at = omega (arith, ap length e, k .long, length-take-le at out (k .within)) in
+      sym (e ∙ take-all at out l)
+
+-- ---- the packed cells checked
+
+pub record Going (s : List ℕ) (code events position at cell : ℕ) : Type 0 where
+  pub done : List ℕ
+  pub says : unpacked s ≡ andThen (bytes done) (unpackFrom (4096 - cell) position cell (promise code events) (drop at s))
+  pub long : length done ≡ 16 * cell
+  pub within : at ≤ length s
+  pub place : position ≤ cell
+
+pub going-none : (s : List ℕ) → Going s 0 0 0 0 0
+unfolding unpacked
+going-none s = record { done = []; says = sym (then-nil (unpackFrom 4096 0 0 [] s)); long = refl; within = omega arith; place = omega arith }
+
+next-most : (p : ℕ) (due : List Role) → nextPosition p due ≤ p + 1
+next-most p [] = omega arith
+next-most p (r ∷ due) = omega arith
+
+-- a fault stays one
+counted-stops : (b c : List ℕ) (t u : Result) (k : ℕ) → ((n : ℕ) → taken t k ≡ Bytes n → ⊥) → counted (andThen (bytes b) (andThen t u)) ≡ taken t k
+counted-stops b c (bytes a) u k h = absurd (h k refl)
+counted-stops b c (refused x) u k h = refl
+counted-stops b c (ends p d) u k h = refl
+
+taken-bytes : (t : Result) (k n : ℕ) → taken t k ≡ Bytes n → (n ≡ k) × ((c : List ℕ) → ((b : List ℕ) → t ≡ bytes b → b ≡ c) → t ≡ bytes c)
+taken-bytes (bytes a) k n e = (cc, λ c f. ap bytes (f a refl))
+taken-bytes (refused x) k n e = let z : _≡_ {A = ℕ} 0 1 = cc in absurd (omega arith)
+taken-bytes (ends p d) k n e = let z : _≡_ {A = ℕ} 0 1 = cc in absurd (omega arith)
+
+-- the code's arm for what is no count
+pub not-bytes : (t : Packing) → OneOf (1 ∷ 2 ∷ []) (tagOf the-type t) → (n : ℕ) → t ≡ Bytes n → ⊥
+not-bytes (Bytes m) o n e = miss (1 ∷ 2 ∷ []) 0 tt o
+not-bytes (Refused x) o n e = let z : _≡_ {A = ℕ} 0 1 = cc in omega arith
+not-bytes (Ends p d) o n e = let z : _≡_ {A = ℕ} 0 1 = cc in omega arith
+
+module _ (s : List ℕ) (code events position at cell : ℕ) (g : Going s code events position at cell) where
+  abbrev due : List Role
+  due = promise code events
+
+  abbrev left : List ℕ
+  left = drop at s
+
+  pub going-done : finished due left ≡ true → Bytes (16 * cell) ≡ counted (unpacked s)
+  going-done f =
+      sym (ap counted (g .says ∙ ap (andThen (bytes (g .done))) (step-done position cell due left (4096 - cell) f)) ∙ ap (λ (b : List ℕ). Bytes (length b)) (append-nil (g .done)) ∙ ap Bytes (g .long))
+
+  pub going-full : finished due left ≡ false → cell ≡ 4096 → Refused Length ≡ counted (unpacked s)
+  going-full f e =
+      let z : 4096 - cell ≡ 0 = omega arith in
+      sym (ap counted (g .says ∙ ap (λ (n : ℕ). andThen (bytes (g .done)) (unpackFrom n position cell due left)) z ∙ ap (andThen (bytes (g .done))) (step-full position cell due left f)))
+
+  module _ (l : cell < 4096) (f : finished due left ≡ false) where
+    more : 4096 - cell ≡ suc (4096 - (cell + 1))
+    more = omega arith
+
+    on : unpacked s ≡ andThen (bytes (g .done)) (andThen (readCell (roleOf due) position cell left) (later position cell due left (4096 - (cell + 1))))
+    on =
+        g .says ∙ ap (λ (n : ℕ). andThen (bytes (g .done)) (unpackFrom n position cell due left)) more
+        ∙ ap (andThen (bytes (g .done))) (step-more position cell due left (4096 - (cell + 1)) f)
+
+    -- the fault of the next cell is that of the whole
+    pub going-fault : (t : Packing) → t ≡ taken (readCell (roleOf due) position cell left) (size (roleOf due) left) → ((n : ℕ) → t ≡ Bytes n → ⊥) → t ≡ counted (unpacked s)
+    going-fault t e h =
+        e ∙ sym (ap counted on ∙ counted-stops (g .done) [] (readCell (roleOf due) position cell left) (later position cell due left (4096 - (cell + 1))) (size (roleOf due) left) (λ n q. h n (e ∙ q)))
+
+    -- the next cell is good
+    pub record Went (k : ℕ) : Type 0 where
+      pub is : k ≡ size (roleOf due) left
+      pub fits : k ≤ length left
+      pub cell-is : readCell (roleOf due) position cell left ≡ bytes (nextCell (roleOf due) left)
+      pub full : length (nextCell (roleOf due) left) ≡ 16
+
+    pub going-went : (k : ℕ) → Bytes k ≡ taken (readCell (roleOf due) position cell left) (size (roleOf due) left) → Went k
+    going-went k e =
+        let (n, i) = taken-bytes (readCell (roleOf due) position cell left) (size (roleOf due) left) k (sym e) in
+        let c = i (nextCell (roleOf due) left) (λ b q. cell-read (roleOf due) position cell left b q .is) in
+        let w = cell-read (roleOf due) position cell left (nextCell (roleOf due) left) c in
+        record { is = n; fits = omega (arith, w .fits); cell-is = c; full = cell-length (roleOf due) left (w .fits) }
+
+    pub going-next : (k position₂ : ℕ) (r : Next) → Went k → NextCell code events left r → position₂ ≡ nextPosition position (promise (r .code) (r .events))
+        → Going s (r .code) (r .events) position₂ (at + k) (cell + 1)
+    going-next k position₂ r w n ep =
+        let c = nextCell (roleOf due) left in
+        let rest = 4096 - (cell + 1) in
+        record {
+          done = g .done ++ c;
+          says = on ∙ ap (λ (t : Result). andThen (bytes (g .done)) (andThen t (later position cell due left rest))) (w .cell-is)
+              ∙ then-then (g .done) c (later position cell due left rest)
+              ∙ ap (λ (q : List Role). andThen (bytes (g .done ++ c)) (unpackFrom rest (nextPosition position q) (cell + 1) q (drop (size (roleOf due) left) left))) (sym (n .due))
+              ∙ ap₂ (λ (q : ℕ) (t : List ℕ). andThen (bytes (g .done ++ c)) (unpackFrom rest q (cell + 1) (promise (r .code) (r .events)) t)) (sym ep)
+              (ap (λ (j : ℕ). drop j left) (sym (w .is)) ∙ drop-drop k at s);
+          long = omega (arith, length-append (g .done) c, g .long, w .full);
+          within = omega (arith, length-drop at s, g .within, w .fits);
+          place = omega (arith, g .place, ep, next-most position (promise (r .code) (r .events)));
+        }
+
+-- ---- the cells restored
+
+pub record Restoring (s out : List ℕ) (code events at to : ℕ) : Type 0 where
+  -- the cells that are left
+  pub cs : List Cell
+  pub fine : Fine (promise code events) cs
+  pub packs : packFrom (promise code events) cs ≡ drop at s
+  pub says : unpacked s ≡ bytes (take to out ++ flat cs)
+  pub long : length out ≡ to + 16 * length cs
+  pub within : at ≤ length s
+
+pub restoring-none : (s out : List ℕ) → Room (unpacked s) (length out) → Restoring s out 0 0 0 0
+unfolding unpacked
+restoring-none s out m =
+    let r = read-is 4096 0 0 [] s (m .image) (m .is) in
+    record {
+      cs = r .cs;
+      fine = r .fine;
+      packs = r .packs;
+      says = m .is ∙ ap bytes (r .is);
+      long = omega (arith, m .long, ap length (r .is), length-flat (r .cs) (fine-full [] (r .cs) (r .fine)));
+      within = omega arith;
+    }
+
+-- the next cell that is left, by the bytes that are
+pub record Left (s out : List ℕ) (code events at to : ℕ) : Type 0 where
+  pub c : Cell
+  pub cs : List Cell
+  pub full : length c ≡ 16
+  pub cell-is : nextCell (roleOf (promise code events)) (drop at s) ≡ c
+  pub fits : size (roleOf (promise code events)) (drop at s) ≤ length (drop at s)
+  pub due-is : dueBehind (promise code events) (drop at s) ≡ dueBehind (promise code events) c
+  pub rest-packs : packFrom (dueBehind (promise code events) c) cs ≡ drop (size (roleOf (promise code events)) (drop at s)) (drop at s)
+  pub fine : Fine (dueBehind (promise code events) c) cs
+  pub says : unpacked s ≡ bytes (take to out ++ (c ++ flat cs))
+  pub long : length out ≡ to + 16 + 16 * length cs
+
+left-by : (s out : List ℕ) (code events at to : ℕ) (cs : List Cell) → Fine (promise code events) cs → packFrom (promise code events) cs ≡ drop at s
+    → unpacked s ≡ bytes (take to out ++ flat cs) → length out ≡ to + 16 * length cs → to < length out → Left s out code events at to
+left-by s out code events at to [] f p u l h = absurd (omega arith)
+left-by s out code events at to (c ∷ cs) f p u l h =
+    let due = promise code events in
+    let role = roleOf due in
+    let t = packFrom (dueBehind due c) cs in
+    let z = right-zeros role 0 0 c (f .0 .1 0 0) in
+    let n = length-append (keep role c) t in
+    record {
+      c = c;
+      cs = cs;
+      full = f .0 .0;
+      cell-is = ap (nextCell role) (sym p) ∙ next-back role c (f .0 .0) t z;
+      fits = omega (arith, n, ap length p, keep-length role c (f .0 .0), next-size role c (f .0 .0) t, ap (size role) p);
+      due-is = ap (dueBehind due) (sym p) ∙ due-kept due c t (f .0 .0);
+      rest-packs = sym (next-rest role c (f .0 .0) t) ∙ ap (λ (x : List ℕ). drop (size role x) x) p;
+      fine = f .1;
+      says = u;
+      long = omega arith;
+    }
+
+module _ (s out : List ℕ) (code events at to : ℕ) (k : Restoring s out code events at to) where
+  pub restoring-left : to < length out → Left s out code events at to
+  restoring-left h = left-by s out code events at to (k .cs) (k .fine) (k .packs) (k .says) (k .long) h
+
+  pub restoring-next : (r : Next) (part : List ℕ) → to < length out → NextCell code events (drop at s) r → part ≡ putRestored (drop at s) (r .size) (take (length out - to) (drop to out))
+      → (length (take to out ++ (part ++ drop (length out - to) (drop to out))) ≡ length out)
+      × Restoring s (take to out ++ (part ++ drop (length out - to) (drop to out))) (r .code) (r .events) (at + r .size) (to + 16)
+  restoring-next r part h n e =
+      let due = promise code events in
+      let role = roleOf due in
+      let w = restoring-left h in
+      let there : r .size ≤ length (drop at s) = omega (arith, n .keeps, w .fits) in
+      let few : r .size ≤ 16 = omega (arith, n .keeps, size-fits role (drop at s)) in
+      let room : 16 ≤ length (drop to out) = omega (arith, length-drop to out, w .long) in
+      let p : part ≡ putRestored (drop at s) (r .size) (drop to out) = e ∙ ap (putRestored (drop at s) (r .size)) (rest-is out to) in
+      let l : length part ≡ length (drop to out) = ap length p ∙ restored-length (drop at s) (r .size) (drop to out) there few room in
+      let b : take 16 part ≡ w .c =
+      ap (take 16) p ∙ restored-cell (drop at s) (r .size) (drop to out) there few room ∙ ap (λ (j : ℕ). padded (take j (drop at s))) (n .keeps) ∙ w .cell-is in
+      let q = put-part out part (w .c) to 16 (omega (arith, w .long)) l (omega arith) b in
+      let d : promise (r .code) (r .events) ≡ dueBehind due (w .c) = n .due ∙ w .due-is in (
+        q .same,
+        record {
+          cs = w .cs;
+          fine = rw d (w .fine);
+          packs = ap (λ (x : List Role). packFrom x (w .cs)) d ∙ w .rest-packs ∙ ap (λ (j : ℕ). drop j (drop at s)) (sym (n .keeps)) ∙ drop-drop (r .size) at s;
+          says = w .says ∙ ap bytes (sym (append-assoc (take to out) (w .c) (flat (w .cs))) ∙ ap (λ (t : List ℕ). t ++ flat (w .cs)) (sym (q .start)));
+          long = omega (arith, q .same, w .long);
+          within = omega (arith, length-drop at s, k .within, there);
+        },
+      )
+
+  -- the bytes of the next cell are there
+  pub restoring-there : (r : Next) → to < length out → NextCell code events (drop at s) r → at + r .size ≤ length s
+  restoring-there r h n = omega (arith, n .keeps, restoring-left h .fits, length-drop at s, k .within)
+
+  pub restoring-end : length out ≤ to → unpacked s ≡ bytes out
+  restoring-end h = none-left (k .cs) (k .says) (k .long)
+    where
+      none-left : (cs : List Cell) → unpacked s ≡ bytes (take to out ++ flat cs) → length out ≡ to + 16 * length cs → unpacked s ≡ bytes out
+      none-left [] u l = u ∙ ap bytes (append-nil (take to out) ∙ take-all to out h)
+      none-left (c ∷ cs) u l = absurd (omega arith)

@@ -1,0 +1,56 @@
+-- Inner: what the functions inside the two operations say.
+use Prim.Native.Nat.{ℕ, _+_, _-_}
+use mathlib.Core.Path.{_≡_}
+use mathlib.Core.List.{List, _++_, map}
+use mathlib.Core.Bool.{cond}
+use lib.Dec.{ltb}
+use lib.ListN.{length, take, drop, replicate}
+use Rattle.cells.specs.Cells.{Cell, over}
+use Rattle.cells.specs.Table.{Row, rows, total}
+use Rattle.packed.specs.Form.{promise, roleOf, dueBehind, size}
+use Rattle.packed.specs.Reading.{Result, bytes, refused, ends, padded}
+use Rattle.packed.specs.declared.form.Next.{Next}
+use Rattle.packed.specs.declared.Packing.{Packing}
+use Rattle.packed.specs.declared.Packing.the-variants.{Bytes, Refused, Ends}
+
+-- how many bytes a cell of each row keeps
+abbrev pub sizeTable : List ℕ
+unfolding rows
+sizeTable = map (λ (r : Row). 1 + total (r .operands)) rows
+
+-- the next cell, where so many instruction cells and event cells are promised
+pub record NextCell (code events : ℕ) (s : List ℕ) (r : Next) : Type 0 where
+  pub keeps : r .size ≡ size (roleOf (promise code events)) s
+  pub due : promise (r .code) (r .events) ≡ dueBehind (promise code events) s
+
+-- ---- packing
+
+-- the whole cell over the start of an output, where it has room; else its first k bytes
+abbrev pub putKept : Cell → ℕ → List ℕ → List ℕ
+putKept c k out = cond (ltb (length out) 16) (over (take k c) out) (over c out)
+
+-- ---- unpacking
+
+-- one cell, that takes k bytes
+abbrev pub taken : Result → ℕ → Packing
+taken (bytes c) k = Bytes k
+taken (refused x) k = Refused x
+taken (ends p d) k = Ends p d
+
+-- all cells
+abbrev pub counted : Result → Packing
+counted (bytes b) = Bytes (length b)
+counted (refused x) = Refused x
+counted (ends p d) = Ends p d
+
+-- the result is an image of so many bytes
+pub record Room (t : Result) (n : ℕ) : Type 0 where
+  pub image : List ℕ
+  pub is : t ≡ bytes image
+  pub long : n ≡ length image
+
+-- a cell over the start of an output; and where there are 16 bytes to copy, and room for the next cell, zeros over the start of that
+abbrev pub putRestored : List ℕ → ℕ → List ℕ → List ℕ
+putRestored s k out =
+    cond (ltb (length s) 16) (over (padded (take k s)) out)
+    (cond (ltb (length out) 32) (over (padded (take k s)) out) (over (take k s ++ replicate 16 0) out))
