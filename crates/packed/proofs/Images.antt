@@ -20,9 +20,7 @@ use Rattle.cells.proofs.Functions.{functions-nil, functions-cons, cells-of-func
 use Rattle.cells.proofs.Lists.{all-append, all-both, all-each, all-parts}
 use Rattle.image.specs.Image.{GoodImage}
 use Rattle.image.proofs.Again.{image-formed, formed-image}
-use Rattle.packed.specs.Form.{promise, roleOf, dueBehind}
-use Rattle.packed.specs.declared.form.Role.{Role}
-use Rattle.packed.specs.declared.form.Role.the-variants.{Head, Code, Event}
+use Rattle.packed.specs.Form.{Role, Head, Code, Event, promise, roleOf, dueBehind}
 use Rattle.packed.proofs.Walk.{Right, Fine}
 
 -- ---- a run of cells of one role

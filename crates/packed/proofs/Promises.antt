@@ -8,12 +8,10 @@ use lib.Dec.{eqb}
 use lib.ListN.{length}
 use Rattle.cells.specs.Bytes.{byte, half}
 use Rattle.cells.specs.Table.{headRow, eventRow}
-use Rattle.packed.specs.Form.{promise, roleOf, dueBehind, rowSize, size}
+use Rattle.packed.specs.Form.{Role, Code, Event, promise, roleOf, dueBehind, rowSize, size}
 use Rattle.packed.specs.Reading.{empty}
 use Rattle.packed.specs.Steps.{NextCell}
 use Rattle.packed.specs.declared.form.Next.{Next}
-use Rattle.packed.specs.declared.form.Role.{Role}
-use Rattle.packed.specs.declared.form.Role.the-variants.{Code, Event}
 use Rattle.packed.proofs.Widths.{head-size}
 
 pub some-code : (n m : ℕ) → (n ≡ 0 → ⊥) → promise n m ≡ Code ∷ promise (n - 1) m

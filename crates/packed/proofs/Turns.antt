@@ -12,11 +12,10 @@ use lib.Seq.{take-all, take-append-add, take-append-le, length-take-le, drop-con
 use Rattle.cells.specs.Cells.{Cell, cells, flat}
 use Rattle.cells.specs.declared.refusal.Refusal.the-variants.{Length}
 use Rattle.cells.proofs.Cells.{length-cells, length-flat, part-cell}
-use Rattle.packed.specs.Form.{promise, roleOf, dueBehind, size, keep, packFrom, packed}
+use Rattle.packed.specs.Form.{Role, promise, roleOf, dueBehind, size, keep, packFrom, packed}
 use Rattle.packed.specs.Reading.{Result, bytes, refused, ends, andThen, finished, padded, nextCell, readCell, nextPosition, unpackFrom, unpacked}
 use Rattle.packed.specs.Steps.{NextCell, Room, counted, taken, putKept, putRestored}
 use Rattle.packed.specs.declared.form.Next.{Next}
-use Rattle.packed.specs.declared.form.Role.{Role}
 use Rattle.packed.specs.declared.Packing.{Packing}
 use Rattle.packed.proofs.Packing.{the-type}
 use Rattle.packed.specs.declared.Packing.the-variants.{Bytes, Refused, Ends}
@@ -323,10 +322,6 @@ module _ (s out : List ℕ) (code events at to : ℕ) (k : Restoring s out code 
           within = omega (arith, length-drop at s, k .within, there);
         },
       )
-
-  -- the bytes of the next cell are there
-  pub restoring-there : (r : Next) → to < length out → NextCell code events (drop at s) r → at + r .size ≤ length s
-  restoring-there r h n = omega (arith, n .keeps, restoring-left h .fits, length-drop at s, k .within)
 
   pub restoring-end : length out ≤ to → unpacked s ≡ bytes out
   restoring-end h = none-left (k .cs) (k .says) (k .long)

@@ -18,12 +18,11 @@ use Rattle.cells.proofs.Facts.{by-test}
 use Rattle.cells.proofs.Over.{over-take}
 use Rattle.image.specs.Image.{imageAnswer, GoodImage}
 use Rattle.image.proofs.Good.{image-good}
-use Rattle.packed.specs.Form.{roleOf, dueBehind, size, keep, packFrom, packed}
+use Rattle.packed.specs.Form.{Role, roleOf, dueBehind, size, keep, packFrom, packed}
 use Rattle.packed.specs.Reading.{Result, bytes, refused, ends, ifGood, unpacked}
 use Rattle.packed.specs.Operations.{packResult, unpackResult, answerOf, outputOf, Done, PackedImage, PackDone, UnpackDone, isWritten, lengthWritten, replyOf}
 use Rattle.packed.specs.Steps.{counted, Room}
 use Rattle.packed.specs.Claim.{Wrote, wrote, Writes, UnpackUndoesPack, NeverAlike, PackUndoesUnpack, OneForm, UnpackedPasses, PackNeverLonger}
-use Rattle.packed.specs.declared.form.Role.{Role}
 use Rattle.packed.specs.declared.Packing.{Packing}
 use Rattle.packed.specs.declared.Packing.the-variants.{Bytes, Refused, Ends}
 use Rattle.packed.proofs.Widths.{size-fits}

@@ -8,16 +8,16 @@ use native.Mathlib.Omega.{arith}
 use borrow.Author.Tests.{leb-true, le-leb, lt-leb}
 use lib.Dec.{leb}
 use lib.ListN.{length, take, drop, length-append, take-append-drop}
+use Rattle.cells.specs.Answers.{unless}
 use Rattle.cells.specs.Cells.{Cell, flat}
 use Rattle.cells.specs.declared.refusal.Checked.{Checked}
 use Rattle.cells.specs.declared.refusal.Checked.the-variants.{Good, Refused}
 use Rattle.cells.specs.declared.refusal.Refusal.{Refusal}
 use Rattle.cells.specs.declared.refusal.Refusal.the-variants.{Length, UnknownCommand}
 use Rattle.cells.proofs.Facts.{by-test}
-use Rattle.packed.specs.Form.{roleOf, dueBehind, size, keep, packFrom}
+use Rattle.packed.specs.Form.{Role, roleOf, dueBehind, size, keep, packFrom}
 use Rattle.packed.specs.Reading.{Result, bytes, refused, ends, ifGood, andThen, empty, finished, known, nextCell, cellCheck, readCell, nextPosition, unpackFrom}
 use Rattle.packed.specs.Steps.{taken}
-use Rattle.packed.specs.declared.form.Role.{Role}
 use Rattle.packed.specs.declared.Packing.{Packing}
 use Rattle.packed.specs.declared.Packing.the-variants.{Bytes, Refused as RefusedBy, Ends}
 use Rattle.packed.proofs.Widths.{size-some, right-zeros, right-known, right-anywhere, known-first, keep-length, next-first, next-size, next-rest, next-back, due-kept, cell-length, cell-keep, due-read}
@@ -125,6 +125,14 @@ module _ (r : Role) (p d : ℕ) (s : List ℕ) where
 
     pub taken-good : (n : ℕ) → n ≡ size r s → cellCheck r p d (nextCell r s) ≡ Good → Bytes n ≡ says (readCell r p d s)
     taken-good n en e = ap Bytes en ∙ sym (ap says (read-whole r p d s k h) ∙ ap (λ (t : Checked). says (ifGood t (nextCell r s))) e)
+
+    -- by a test of its operands
+    module _ (t : Bool) (x : Refusal) (by : cellCheck r p d (nextCell r s) ≡ unless t x) where
+      pub taken-unfit : t ≡ false → RefusedBy x ≡ says (readCell r p d s)
+      taken-unfit f = taken-refused x (by ∙ ap (λ (u : Bool). unless u x) f)
+
+      pub taken-fit : t ≡ true → (n : ℕ) → n ≡ size r s → Bytes n ≡ says (readCell r p d s)
+      taken-fit y n en = taken-good n en (by ∙ ap (λ (u : Bool). unless u x) y)
 
 -- ---- one step
 

@@ -6,7 +6,7 @@ use mathlib.Core.Bool.{Bool, true, false, cond, _&&_}
 use Prim.Native.Nat.{ℕ, zero, suc, _+_, _-_, _*_, _≤_, _<_}
 use native.Mathlib.Nat.{add-assoc, add-zero}
 use native.Mathlib.Omega.{arith}
-use borrow.Author.Tests.{leb-true, ltb-true, ltb-false, eqb-true}
+use borrow.Author.Tests.{lt-ltb, le-leb, lt-leb, ltb-true, ltb-false, eqb-true}
 use lib.Dec.{eqb, ltb, leb}
 use lib.ListN.{length, getD, take, drop, replicate, length-append, length-drop, length-replicate, take-append-drop, drop-of-length-le, List·getD-eq-default, List·getD-append}
 use lib.Seq.{length-take-le, getD-take, take-at, drop-at, take-all}
@@ -24,11 +24,9 @@ use Rattle.cells.specs.declared.refusal.Refusal.the-variants.{Head as BadHead, 
 use Rattle.cells.proofs.Facts.{by-test, and-true}
 use Rattle.cells.proofs.Rows.{row-fits}
 use Rattle.cells.proofs.Checks.{instruction-good, event-good, head-good}
-use Rattle.packed.specs.Form.{promise, roleOf, dueBehind, rowFor, rowSize, size, keep}
+use Rattle.packed.specs.Form.{Role, Head, Code, Event, promise, roleOf, dueBehind, rowFor, rowSize, size, keep}
 use Rattle.packed.specs.Reading.{padded, nextCell, known, cellCheck}
 use Rattle.packed.specs.Steps.{sizeTable}
-use Rattle.packed.specs.declared.form.Role.{Role}
-use Rattle.packed.specs.declared.form.Role.the-variants.{Head, Code, Event}
 
 -- ---- sizes
 
@@ -150,36 +148,6 @@ module _ (p d : ℕ) (b t : List ℕ) (z : zeros t ≡ true) where
       let f : byte (b ++ t) 0 ≡ byte b 0 = byte-start b t 0 (omega (arith, size-some Event b)) in
       rw (f, k, row-start eventRow b t z h)
 
--- a cell by the bytes it keeps, which are all there
-module _ (p d : ℕ) (c : List ℕ) where
-  whole-cell : (r : Role) → length c ≡ size r c → nextCell r c ≡ c ++ replicate (16 - length c) 0
-  whole-cell r e = ap padded (take-all (size r c) c (omega arith))
-
-  pub head-kept : (r : Role) (n : ℕ) → r ≡ Head → n ≡ codeCount c + eventCount c → length c ≡ size r c → headCheck p d n c ≡ cellCheck r p d (nextCell r c)
-  head-kept r n er en e =
-      rw (er, en) (sym (ap (cellCheck Head p d) (whole-cell Head (rw er at e)) ∙ head-start p d c _ (zeros-replicate (16 - length c)) (sym (rw er at e))))
-
-  pub code-kept : (r : Role) → r ≡ Code → length c ≡ size r c → known r c ≡ true → unless (rowOk (byte c 0) c) (Operand p d) ≡ cellCheck r p d (nextCell r c)
-  code-kept r er e k =
-      rw er (sym (ap (cellCheck Code p d) (whole-cell Code (rw er at e)) ∙ code-start p d c _ (zeros-replicate (16 - length c)) (sym (rw er at e)) (rw er at k)))
-
-  pub event-kept : (r : Role) → r ≡ Event → length c ≡ size r c → known r c ≡ true → unless (rowOk eventRow c) (Operand p d) ≡ cellCheck r p d (nextCell r c)
-  event-kept r er e k =
-      rw er (sym (ap (cellCheck Event p d) (whole-cell Event (rw er at e)) ∙ event-start p d c _ (zeros-replicate (16 - length c)) (sym (rw er at e)) (rw er at k)))
-
-  -- what is known has its row
-  pub known-row : (r : Role) → r ≡ Code → known r c ≡ true → byte c 0 < 84
-  known-row r er k = omega (arith, leb-true (byte c 0) 81 (and-true (ltb 0 (byte c 0)) (leb (byte c 0) 81) (rw er at k) .1))
-
-pub head-room : (r : Role) (c : List ℕ) → r ≡ Head → length c ≡ size r c → 7 ≤ length c
-head-room r c er e = omega (arith, rw er at e, head-size c)
-
-pub code-room : (c : List ℕ) (r : Role) (n : ℕ) → r ≡ Code → n ≡ byte c 0 → length c ≡ size r c → rowSize n ≤ length c
-code-room c r n er en e = let f : length c ≡ rowSize n = rw (er, ← en) at e in omega arith
-
-pub event-room : (c : List ℕ) (r : Role) → r ≡ Event → length c ≡ size r c → rowSize eventRow ≤ length c
-event-room c r er e = let f : length c ≡ rowSize eventRow = rw er at e in omega arith
-
 -- ---- a good cell is zero behind what is kept
 
 operands-zeros : (ks : List Kind) (c : Cell) (at : ℕ) → operandsOk ks c at ≡ true → zeros (drop (at + total ks) c) ≡ true
@@ -294,14 +262,56 @@ due-read due s fits =
     let l : size (roleOf due) k ≤ length k = omega (arith, start-whole (roleOf due) s fits) in
     due-start due k (replicate (16 - length k) 0) l ∙ sym (due-start due k (drop (size (roleOf due) s) s) l) ∙ ap (dueBehind due) (take-append-drop (size (roleOf due) s) s)
 
--- the bytes that the code takes
-module _ (r : Role) (s : List ℕ) (k : ℕ) (is : k ≡ size r s) (there : k ≤ length s) where
-  pub kept-whole : known r s ≡ true → (length (take k s) ≡ size r (take k s)) × (known r (take k s) ≡ true)
-  kept-whole y =
-      let l : size r s ≤ length s = omega arith in
-      rw is (sym (start-whole r s l), start-known r s l ∙ y)
+-- ---- the check of a cell by the bytes it keeps, the first k of those that are left
 
-  pub kept-cell : (f : Cell → Checked) (t : Checked) → t ≡ f (nextCell r (take k s)) → f (nextCell r s) ≡ t
-  kept-cell f t e =
-      let l : size r s ≤ length s = omega arith in
-      sym (e ∙ ap (λ (n : ℕ). f (nextCell r (take n s))) is ∙ ap f (start-cell r s l))
+module _ (p d : ℕ) (s : List ℕ) (k : ℕ) (there : k ≤ length s) where
+  pub head-taken : (n : ℕ) → k ≡ size Head s → n ≡ codeCount s + eventCount s → cellCheck Head p d (nextCell Head s) ≡ headCheck p d n (take k s)
+  head-taken n is en =
+      let l : size Head s ≤ length s = omega arith in
+      let b = take (size Head s) s in
+      let w = start-whole Head s l in
+      let h : 7 ≡ length b = sym (head-size b) ∙ w in
+      let c : codeCount b + eventCount b ≡ n =
+      sym (en ∙ ap (λ (t : List ℕ). codeCount t + eventCount t) (sym (take-append-drop (size Head s) s))
+      ∙ ap₂ (λ (x y : ℕ). x + y) (half-start b (drop (size Head s) s) 3 (omega arith)) (half-start b (drop (size Head s) s) 5 (omega arith))) in
+      head-start p d b _ (zeros-replicate (16 - length b)) w ∙ ap₂ (λ (m j : ℕ). headCheck p d m (take j s)) c (sym is)
+
+  pub code-taken : (n : ℕ) → k ≡ size Code s → n ≡ byte s 0 → known Code s ≡ true → cellCheck Code p d (nextCell Code s) ≡ unless (rowOk n (take k s)) (Operand p d)
+  code-taken n is en y =
+      let l : size Code s ≤ length s = omega arith in
+      let b = take (size Code s) s in
+      code-start p d b _ (zeros-replicate (16 - length b)) (start-whole Code s l) (start-known Code s l ∙ y)
+      ∙ ap₂ (λ (m j : ℕ). unless (rowOk m (take j s)) (Operand p d)) (start-first Code s l ∙ sym en) (sym is)
+
+  pub event-taken : k ≡ size Event s → known Event s ≡ true → cellCheck Event p d (nextCell Event s) ≡ unless (rowOk eventRow (take k s)) (Operand p d)
+  event-taken is y =
+      let l : size Event s ≤ length s = omega arith in
+      let b = take (size Event s) s in
+      event-start p d b _ (zeros-replicate (16 - length b)) (start-whole Event s l) (start-known Event s l ∙ y)
+      ∙ ap (λ (j : ℕ). unless (rowOk eventRow (take j s)) (Operand p d)) (sym is)
+
+-- commands are 01 to 51, event kinds 0 and 1
+module _ (s : List ℕ) (n : ℕ) (is : n ≡ byte s 0) where
+  pub known-code : (n ≡ 0 → ⊥) → n ≤ 0x51 → known Code s ≡ true
+  known-code some few =
+      let h : 0 < n = omega (arith, some) in
+      rw (← is, lt-ltb 0 n h, le-leb n 0x51 few)
+
+  pub zero-unknown : n ≡ 0 → known Code s ≡ false
+  zero-unknown e = rw (← is, e)
+
+  pub past-unknown : 0x51 < n → known Code s ≡ false
+  past-unknown h =
+      let z : 0 < n = omega arith in
+      rw (← is, lt-ltb 0 n z, lt-leb n 0x51 h)
+
+pub kind-known : (s : List ℕ) → byte s 0 ≤ 1 → known Event s ≡ true
+kind-known s h = le-leb _ _ h
+
+pub kind-unknown : (s : List ℕ) → 1 < byte s 0 → known Event s ≡ false
+kind-unknown s h = lt-leb _ _ h
+
+-- the operands of a row are among them
+pub taken-room : (s : List ℕ) (k n : ℕ) → k ≤ length s → k ≡ rowSize n → 1 + total (rowOf n) ≤ length (take k s)
+unfolding rowSize
+taken-room s k n there is = omega (arith, length-take-le k s there)

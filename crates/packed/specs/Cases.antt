@@ -12,11 +12,9 @@ use Rattle.cells.specs.Functions.{functions}
 use Rattle.cells.specs.Refusals.{numbered}
 use Rattle.cells.specs.Table.{rows}
 use Rattle.image.specs.Image.{imageAnswer}
-use Rattle.packed.specs.Form.{rowSize, keep, packed}
+use Rattle.packed.specs.Form.{Role, Head as HeadCell, Code, Event, rowSize, keep, packed}
 use Rattle.packed.specs.Reading.{Result, readCell, unpackFrom, unpacked}
 use Rattle.packed.specs.Operations.{packResult, unpackResult, answerOf, outputOf, Reply, success, refusal, replyOf}
-use Rattle.packed.specs.declared.form.Role.{Role}
-use Rattle.packed.specs.declared.form.Role.the-variants.{Head as HeadCell, Code, Event}
 
 -- ---- what a cell keeps
 

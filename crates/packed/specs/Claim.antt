@@ -10,11 +10,9 @@ use Rattle.cells.specs.Cells.{Cell, cells, over}
 use Rattle.cells.specs.Functions.{Function, functions}
 use Rattle.cells.specs.declared.refusal.Checked.the-variants.{Good}
 use Rattle.image.specs.Image.{imageAnswer}
-use Rattle.packed.specs.Form.{size, keep, packed}
+use Rattle.packed.specs.Form.{Role, Head, Code, Event, size, keep, packed}
 use Rattle.packed.specs.Reading.{Result}
 use Rattle.packed.specs.Operations.{packResult, unpackResult, answerOf, outputOf}
-use Rattle.packed.specs.declared.form.Role.{Role}
-use Rattle.packed.specs.declared.form.Role.the-variants.{Head, Code, Event}
 use Rattle.packed.specs.declared.Packing.the-variants.{Bytes}
 
 -- an operation wrote n bytes to the lent output: these

@@ -7,10 +7,13 @@ use Rattle.cells.specs.Bytes.{byte}
 use Rattle.cells.specs.Cells.{Cell, cells}
 use Rattle.cells.specs.Check.{codeCount, eventCount}
 use Rattle.cells.specs.Table.{rowOf, total, eventRow, headRow}
-use Rattle.packed.specs.declared.form.Role.{Role}
-use Rattle.packed.specs.declared.form.Role.the-variants.{Head, Code, Event}
 
 -- ---- what a cell is: a head promises its instruction cells, then its event cells. Where no cell is promised, the next one is a head
+
+pub data Role : Type 0 where
+  Head : Role
+  Code : Role
+  Event : Role
 
 abbrev pub promise : ℕ → ℕ → List Role
 promise n m = replicate n Code ++ replicate m Event

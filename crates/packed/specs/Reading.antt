@@ -12,9 +12,7 @@ use Rattle.cells.specs.declared.refusal.Refusal.{Refusal}
 use Rattle.cells.specs.declared.refusal.Refusal.the-variants.{Length, UnknownCommand}
 use Rattle.cells.specs.declared.refusal.Checked.{Checked}
 use Rattle.cells.specs.declared.refusal.Checked.the-variants.{Good, Refused}
-use Rattle.packed.specs.Form.{roleOf, dueBehind, size}
-use Rattle.packed.specs.declared.form.Role.{Role}
-use Rattle.packed.specs.declared.form.Role.the-variants.{Head, Code, Event}
+use Rattle.packed.specs.Form.{Role, Head, Code, Event, roleOf, dueBehind, size}
 
 -- ---- what is read: bytes; or a refusal; or 32, with the function's position and the cell's
 

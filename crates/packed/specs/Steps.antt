@@ -7,8 +7,8 @@ use lib.Dec.{ltb}
 use lib.ListN.{length, take, drop, replicate}
 use Rattle.cells.specs.Cells.{Cell, over}
 use Rattle.cells.specs.Table.{Row, rows, total}
-use Rattle.packed.specs.Form.{promise, roleOf, dueBehind, size}
-use Rattle.packed.specs.Reading.{Result, bytes, refused, ends, padded}
+use Rattle.packed.specs.Form.{Role, promise, roleOf, dueBehind, size}
+use Rattle.packed.specs.Reading.{Result, bytes, refused, ends, padded, readCell}
 use Rattle.packed.specs.declared.form.Next.{Next}
 use Rattle.packed.specs.declared.Packing.{Packing}
 use Rattle.packed.specs.declared.Packing.the-variants.{Bytes, Refused, Ends}
@@ -36,6 +36,10 @@ abbrev pub taken : Result → ℕ → Packing
 taken (bytes c) k = Bytes k
 taken (refused x) k = Refused x
 taken (ends p d) k = Ends p d
+
+-- the next cell of a packed form, in its role
+abbrev pub takenAs : Role → ℕ → ℕ → List ℕ → Packing
+takenAs r p d s = taken (readCell r p d s) (size r s)
 
 -- all cells
 abbrev pub counted : Result → Packing

@@ -1,7 +1,6 @@
 // Unpacking: the cells of a packed form one after another. The first fault decides.
 use crate::Packing;
 use crate::form;
-use crate::form::Role;
 use cells::check;
 use cells::check::MAX_IMAGE;
 use cells::read;
@@ -10,21 +9,18 @@ use cells::refusal::Checked;
 use cells::refusal::Refusal;
 use cells::table;
 ghost use mathlib.Core.Path.{_≡_};
-ghost use mathlib.Core.Bool.{true};
 ghost use Prim.Native.Nat.{_≤_, _<_};
 ghost use lib.ListN.{length};
-ghost use Rattle.cells.specs.Answers.{unless};
 ghost use Rattle.cells.specs.Cells.{over};
-ghost use Rattle.cells.specs.Check.{rowOk};
-ghost use Rattle.packed.specs.Form.{promise, rowSize, size as «sizeOf»};
-ghost use Rattle.packed.specs.Reading.{bytes, padded, known as «knownOf», nextCell, cellCheck, readCell, finished as «finishedOf», nextPosition, unpacked};
-ghost use Rattle.packed.specs.Steps.{sizeTable, counted, taken, Room, putRestored};
+ghost use Rattle.packed.specs.Form.{Head, Code, Event, promise, roleOf};
+ghost use Rattle.packed.specs.Reading.{bytes, padded, finished as «finishedOf», nextPosition, unpacked};
+ghost use Rattle.packed.specs.Steps.{sizeTable, counted, takenAs, Room, putRestored};
 
 // Cells of the longest image.
 const MAX_CELLS: usize = MAX_IMAGE / CELL;
 
 // The last command, and the last kind of event.
-const LAST_COMMAND: u8 = 0x51;
+const LAST_COMMAND: usize = 0x51;
 
 const LAST_KIND: u8 = 1;
 
@@ -42,8 +38,7 @@ pub fn check_cells(sizes: &[u8], packed: &[u8]) -> Packing
         if finished(code, events, &packed[at..]) {
             return Packing::Bytes(CELL * cell);
         }
-        let role = form::role_of(code, events);
-        let next = check_next(sizes, role, &packed[at..], position, cell);
+        let next = check_next(sizes, code, events, &packed[at..], position, cell);
         let Packing::Bytes(k) = next else {
             return next;
         };
@@ -87,68 +82,85 @@ fn position_behind(position: usize, code: usize, events: usize) -> usize
     position + 1
 }
 
-// How many bytes the cell at the start of s takes: 3 as soon as a byte is there, 32, then 2 and 4.
-fn check_next(sizes: &[u8], role: Role, s: &[u8], position: usize, cell: usize) -> Packing
+// How many bytes the cell at the start of s takes, where so many instruction cells and event cells are promised; or its fault.
+fn check_next(
+    sizes: &[u8],
+    code: usize,
+    events: usize,
+    s: &[u8],
+    position: usize,
+    cell: usize,
+) -> Packing
     requires { ⌜ now sizes ≡ sizeTable ⌝ }
-    ensures { λ r. ⌜ r ≡ taken (readCell role position cell (now (s .entry))) (sizeOf role (now (s .entry))) ⌝ }
+    ensures { λ r. ⌜ r ≡ takenAs (roleOf (promise code events)) position cell (now (s .entry)) ⌝ }
 {
     if s.len() == 0 {
         return Packing::Ends(position, cell);
     }
-    if !known(role, s) {
+    if code != 0 {
+        return check_instruction(sizes, s, position, cell);
+    }
+    if events != 0 {
+        return check_event(sizes, s, position, cell);
+    }
+    check_head(sizes, s, position, cell)
+}
+
+// An instruction cell: 3, 32, then 4.
+fn check_instruction(sizes: &[u8], s: &[u8], position: usize, cell: usize) -> Packing
+    requires { ⌜ (now sizes ≡ sizeTable) × (0 < length (now s)) ⌝ }
+    ensures { λ r. ⌜ r ≡ takenAs Code position cell (now (s .entry)) ⌝ }
+{
+    let command = read::wide(s[0]);
+    if command == 0 {
         return Packing::Refused(Refusal::UnknownCommand(position, cell));
     }
-    let k = form::size(sizes, role, s);
+    if LAST_COMMAND < command {
+        return Packing::Refused(Refusal::UnknownCommand(position, cell));
+    }
+    let k = form::size_at(sizes, command);
     if s.len() < k {
         return Packing::Ends(position, cell);
     }
-    let checked = check_kept(role, &s[..k], position, cell);
-    if let Checked::Refused(x) = checked {
-        return Packing::Refused(x);
+    if !check::operands_ok(&s[..k], command) {
+        return Packing::Refused(Refusal::Operand(position, cell));
     }
     Packing::Bytes(k)
 }
 
-// A known command or event kind.
-fn known(role: Role, s: &[u8]) -> bool
-    requires { ⌜ 0 < length (now s) ⌝ }
-    ensures { λ r. ⌜ r ≡ knownOf role (now (s .entry)) ⌝ }
+// An event cell: 3, 32, then 4.
+fn check_event(sizes: &[u8], s: &[u8], position: usize, cell: usize) -> Packing
+    requires { ⌜ (now sizes ≡ sizeTable) × (0 < length (now s)) ⌝ }
+    ensures { λ r. ⌜ r ≡ takenAs Event position cell (now (s .entry)) ⌝ }
 {
-    match role {
-        Role::Head => true,
-        Role::Code => {
-            if s[0] == 0 {
-                false
-            } else {
-                s[0] <= LAST_COMMAND
-            }
-        }
-        Role::Event => s[0] <= LAST_KIND,
+    if LAST_KIND < s[0] {
+        return Packing::Refused(Refusal::UnknownCommand(position, cell));
     }
+    let k = form::size_at(sizes, table::EVENT_ROW);
+    if s.len() < k {
+        return Packing::Ends(position, cell);
+    }
+    if !check::operands_ok(&s[..k], table::EVENT_ROW) {
+        return Packing::Refused(Refusal::Operand(position, cell));
+    }
+    Packing::Bytes(k)
 }
 
-// A cell by the bytes it keeps, which are all there: 2 and 4. What a head promises is held to the limits alone.
-fn check_kept(role: Role, c: &[u8], position: usize, cell: usize) -> Checked
-    requires { ⌜ (length (now c) ≡ sizeOf role (now c)) × (knownOf role (now c) ≡ true) ⌝ }
-    ensures { λ r. ⌜ r ≡ cellCheck role position cell (nextCell role (now (c .entry))) ⌝ }
+// A head: 32, then 2. What it promises is held to the limits alone; its operands are any numbers.
+fn check_head(sizes: &[u8], s: &[u8], position: usize, cell: usize) -> Packing
+    requires { ⌜ (now sizes ≡ sizeTable) × (0 < length (now s)) ⌝ }
+    ensures { λ r. ⌜ r ≡ takenAs Head position cell (now (s .entry)) ⌝ }
 {
-    match role {
-        Role::Head => check::check_head(c, position, cell, read::half(c, 3) + read::half(c, 5)),
-        Role::Code => check_row(c, read::wide(c[0]), position, cell),
-        Role::Event => check_row(c, table::EVENT_ROW, position, cell),
+    let k = form::size_at(sizes, form::HEAD_ROW);
+    if s.len() < k {
+        return Packing::Ends(position, cell);
     }
-}
-
-// The operands of a row.
-fn check_row(c: &[u8], row: usize, position: usize, cell: usize) -> Checked
-    requires { ⌜ (rowSize row ≤ length (now c)) × (row < 84) ⌝ }
-    ensures { λ r. ⌜ r ≡ unless (rowOk row (now (c .entry))) (Refusal.Operand position cell) ⌝ }
-{
-    if check::operands_ok(c, row) {
-        Checked::Good
-    } else {
-        Checked::Refused(Refusal::Operand(position, cell))
+    let promised = read::half(s, 3) + read::half(s, 5);
+    let checked = check::check_head(&s[..k], position, cell, promised);
+    if let Checked::Refused(x) = checked {
+        return Packing::Refused(x);
     }
+    Packing::Bytes(k)
 }
 
 // The cells of a packed form that is known good, into an output that has just the room for them.
@@ -158,15 +170,19 @@ pub fn restore_cells(sizes: &[u8], packed: &[u8], out: &mut [u8])
 {
     let mut code = 0;
     let mut events = 0;
+    let mut row = form::HEAD_ROW;
+    let mut size = form::size_at(sizes, row);
     let mut at = 0;
     let mut to = 0;
     while to < out.len() {
+        let before = row;
+        row = form::row_of(code, events, &packed[at..]);
+        size = form::size_again(sizes, row, before, size);
         let next = form::next_cell(sizes, code, events, &packed[at..]);
-        let k = next.size;
-        put_restored(&packed[at..], k, &mut out[to..]);
+        put_restored(&packed[at..], size, &mut out[to..]);
         code = next.code;
         events = next.events;
-        at += k;
+        at += size;
         to += CELL;
     }
 }

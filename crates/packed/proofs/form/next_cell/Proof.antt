@@ -8,44 +8,21 @@ use Rattle.packed.proofs.Widths.{size-some}
 use borrow.Author.Needs.{needs}
 use Rattle.packed.proofs.form.next_cell.Statement.{statement}
 use Rattle.packed.proofs.form.next_cell.Tie as tie
-use Rattle.packed.proofs.form.next_cell.Reads as reads
-use Rattle.packed.proofs.form.next_cell.Lts as lts
-use Rattle.cells.proofs.read.half.Reads as half-reads
-use Rattle.cells.proofs.read.wide.Reads as wide-reads
-use Rattle.packed.proofs.form.size_at.Reads as size-at-reads
 
 shared-slice-read-wide : tie.Need-shared-slice-read-wide
 shared-slice-read-wide c =
     let a = c .before .before .before .before in
     omega (arith, a .pre .1, size-some (roleOf (promise (a .args .code) (a .args .events))) (now (a .args .s)))
 
-wide-requires : tie.Need-wide-requires
-wide-requires c κs = search needs
-
-size-at-requires : tie.Need-size-at-requires
-size-at-requires c κs = search needs
-
-sub-t10 : tie.Need-sub-t10
-sub-t10 c = search needs
-
 returns : tie.Need-returns
 returns c =
     let a = c .before .before .before .before .before .before in
     next-code (a .args .code) (a .args .events) (now (a .args .s)) (c .size-at .result) (c .before .before .before .if1 .taken) (c .size-at .ensures ∙ ap rowSize (c .before .wide .ensures .0))
 
-size-at-requires-2 : tie.Need-size-at-requires-2
-size-at-requires-2 c κs = search needs
-
-sub-t12 : tie.Need-sub-t12
-sub-t12 c = search needs
-
 returns-2 : tie.Need-returns-2
 returns-2 c =
     let a = c .before .before .before .before .before in
     next-event (a .args .code) (a .args .events) (now (a .args .s)) (c .size-at2 .result) (c .before .before .if1 .left) (c .before .if2 .taken) (c .size-at2 .ensures)
-
-size-at-requires-3 : tie.Need-size-at-requires-3
-size-at-requires-3 c κs = search needs
 
 half-requires : tie.Need-half-requires
 half-requires c κs =
@@ -67,14 +44,14 @@ next-cell-spec =
     tie.close
     (tie.spec
     shared-slice-read-wide
-    wide-requires
-    size-at-requires
-    sub-t10
+    (λ c κs. search needs)
+    (λ c κs. search needs)
+    (λ c. search needs)
     returns
-    size-at-requires-2
-    sub-t12
+    (λ c κs. search needs)
+    (λ c. search needs)
     returns-2
-    size-at-requires-3
+    (λ c κs. search needs)
     half-requires
     half-requires-2
     returns-3)

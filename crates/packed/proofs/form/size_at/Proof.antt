@@ -8,15 +8,9 @@ use Rattle.packed.proofs.Widths.{size-at, size-past, table-length}
 use borrow.Author.Needs.{needs}
 use Rattle.packed.proofs.form.size_at.Statement.{statement}
 use Rattle.packed.proofs.form.size_at.Tie as tie
-use Rattle.packed.proofs.form.size_at.Reads as reads
-use Rattle.packed.proofs.form.size_at.Lts as lts
-use Rattle.cells.proofs.read.wide.Reads as wide-reads
 
 shared-slice-read-wide : tie.Need-shared-slice-read-wide
 shared-slice-read-wide c = omega (arith, ap length (c .before .before .before .pre), table-length, c .before .if1 .taken)
-
-wide-requires : tie.Need-wide-requires
-wide-requires c κs = search needs
 
 returns : tie.Need-returns
 returns c =
@@ -27,4 +21,4 @@ returns-2 : tie.Need-returns-2
 returns-2 c = size-past (c .before .before .args .row) (c .if1 .left)
 
 pub size-at-spec : {M : Type 1} → statement M
-size-at-spec = tie.close (tie.spec shared-slice-read-wide wide-requires returns returns-2)
+size-at-spec = tie.close (tie.spec shared-slice-read-wide (λ c κs. search needs) returns returns-2)

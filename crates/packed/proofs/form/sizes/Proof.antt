@@ -3,8 +3,6 @@ use mathlib.Core.Path.{refl}
 use Rattle.cells.specs.Table.{rows}
 use Rattle.packed.proofs.form.sizes.Statement.{statement}
 use Rattle.packed.proofs.form.sizes.Tie as tie
-use Rattle.packed.proofs.form.sizes.Reads as reads
-use Rattle.packed.proofs.form.sizes.Lts as lts
 
 returns : tie.Need-returns
 unfolding rows

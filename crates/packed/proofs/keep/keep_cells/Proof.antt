@@ -10,10 +10,6 @@ use Rattle.packed.proofs.Turns.{cellIn, in-cells, in-full, in-kept, Kee
 use borrow.Author.Needs.{needs}
 use Rattle.packed.proofs.keep.keep_cells.Statement.{statement}
 use Rattle.packed.proofs.keep.keep_cells.Tie as tie
-use Rattle.packed.proofs.keep.keep_cells.Reads as reads
-use Rattle.packed.proofs.keep.keep_cells.Lts as lts
-use Rattle.packed.proofs.form.next_cell.Reads as next-cell-reads
-use Rattle.packed.proofs.keep.put_kept.Reads as put-kept-reads
 
 abbrev Inv-loop : tie.InvT-loop
 Inv-loop sizes image out₀ n code₀ events₀ at₀ i₀ out code events at i = (i ≤ n) × (length out ≡ length out₀) × (at ≤ length out) × Keeping image out code events at i
@@ -24,44 +20,11 @@ abbrev μ-loop : tie.MeasureT-loop
 loop-holds : tie.Need-loop-holds Inv-loop μ-loop
 loop-holds c = (omega arith, refl, omega arith, keeping-none (now (c .before .before .before .args .image)) (now (c .before .before .before .args .out)) (c .before .before .before .pre .2))
 
-mul-a : tie.Need-mul-a Inv-loop μ-loop
-mul-a c = search needs
-
-add-e : tie.Need-add-e Inv-loop μ-loop
-add-e c = search needs
-
-sub-next-cell : tie.Need-sub-next-cell Inv-loop μ-loop
-sub-next-cell c = search needs
-
-part-next-cell-start : tie.Need-part-next-cell-start Inv-loop μ-loop
-part-next-cell-start c = search needs
-
-part-next-cell-end : tie.Need-part-next-cell-end Inv-loop μ-loop
-part-next-cell-end c = search needs
-
 next-cell-requires : tie.Need-next-cell-requires Inv-loop μ-loop
 next-cell-requires c κs =
     let a = c .before .before .before .before .before .before in
     let l = c .before .before .loop in
     (a .pre .0, in-kept (roleOf (promise (l .code) (l .events))) (now (a .args .image)) (l .i) (c .before .loop-test .taken))
-
-sub-put-kept : tie.Need-sub-put-kept Inv-loop μ-loop
-sub-put-kept c = search needs
-
-part-put-kept-start : tie.Need-part-put-kept-start Inv-loop μ-loop
-part-put-kept-start c = search needs
-
-part-put-kept-end : tie.Need-part-put-kept-end Inv-loop μ-loop
-part-put-kept-end c = search needs
-
-sub-put-kept-2 : tie.Need-sub-put-kept-2 Inv-loop μ-loop
-sub-put-kept-2 c = search needs
-
-part-put-kept-start-2 : tie.Need-part-put-kept-start-2 Inv-loop μ-loop
-part-put-kept-start-2 c = search needs
-
-part-put-kept-end-2 : tie.Need-part-put-kept-end-2 Inv-loop μ-loop
-part-put-kept-end-2 c = search needs
 
 put-kept-requires : tie.Need-put-kept-requires Inv-loop μ-loop
 put-kept-requires c κs =
@@ -87,12 +50,6 @@ room c =
 add-at : tie.Need-add-at Inv-loop μ-loop
 add-at c = record { fits = omega (arith, room c, At c .loop .inv .1) }
 
-add-i : tie.Need-add-i Inv-loop μ-loop
-add-i c = search needs
-
-loop-less : tie.Need-loop-less Inv-loop μ-loop
-loop-less c = search needs
-
 loop-again : tie.Need-loop-again Inv-loop μ-loop
 loop-again c =
     let l = At c .loop in
@@ -101,9 +58,6 @@ loop-again c =
     let n = c .before .before .before .before .before .next-cell in
     let k = keeping-next s (l .out) (l .code) (l .events) (l .at) (l .i) (l .inv .3) (cellIn s (l .i)) (n .result) h (in-cells s (l .i) h) (in-full s (l .i) h) (n .ensures) _ (c .before .before .put-kept .ensures) in
     (omega arith, k .long ∙ sym (l .inv .3 .long) ∙ l .inv .1, k .within, k)
-
-same-length : tie.Need-same-length Inv-loop μ-loop
-same-length c = search needs
 
 returns : tie.Need-returns Inv-loop μ-loop
 returns c = let l = c .before .loop in keeping-end (now (c .before .before .before .before .before .args .image)) (l .out) (l .code) (l .events) (l .at) (l .i) (l .inv .3) (c .loop-test .left)
@@ -115,22 +69,22 @@ keep-cells-spec =
     Inv-loop
     μ-loop
     loop-holds
-    mul-a
-    add-e
-    sub-next-cell
-    part-next-cell-start
-    part-next-cell-end
+    (λ c. search needs)
+    (λ c. search needs)
+    (λ c. search needs)
+    (λ c. search needs)
+    (λ c. search needs)
     next-cell-requires
-    sub-put-kept
-    part-put-kept-start
-    part-put-kept-end
-    sub-put-kept-2
-    part-put-kept-start-2
-    part-put-kept-end-2
+    (λ c. search needs)
+    (λ c. search needs)
+    (λ c. search needs)
+    (λ c. search needs)
+    (λ c. search needs)
+    (λ c. search needs)
     put-kept-requires
     add-at
-    add-i
-    loop-less
+    (λ c. search needs)
+    (λ c. search needs)
     loop-again
-    same-length
+    (λ c. search needs)
     returns)

@@ -7,9 +7,6 @@ use Rattle.packed.proofs.Turns.{cellIn, in-cells, in-full, in-kept, Cou
 use borrow.Author.Needs.{needs}
 use Rattle.packed.proofs.keep.length_kept.Statement.{statement}
 use Rattle.packed.proofs.keep.length_kept.Tie as tie
-use Rattle.packed.proofs.keep.length_kept.Reads as reads
-use Rattle.packed.proofs.keep.length_kept.Lts as lts
-use Rattle.packed.proofs.form.next_cell.Reads as next-cell-reads
 
 abbrev Inv-loop : tie.InvT-loop
 Inv-loop sizes image n code₀ events₀ total₀ i₀ code events total i = (i ≤ n) × (total ≤ 16 * i) × Counting image code events total i
@@ -19,21 +16,6 @@ abbrev μ-loop : tie.MeasureT-loop
 
 loop-holds : tie.Need-loop-holds Inv-loop μ-loop
 loop-holds c = (omega arith, omega arith, counting-none (now (c .before .before .args .image)))
-
-mul-a : tie.Need-mul-a Inv-loop μ-loop
-mul-a c = search needs
-
-add-e : tie.Need-add-e Inv-loop μ-loop
-add-e c = search needs
-
-sub-next-cell : tie.Need-sub-next-cell Inv-loop μ-loop
-sub-next-cell c = search needs
-
-part-next-cell-start : tie.Need-part-next-cell-start Inv-loop μ-loop
-part-next-cell-start c = search needs
-
-part-next-cell-end : tie.Need-part-next-cell-end Inv-loop μ-loop
-part-next-cell-end c = search needs
 
 next-cell-requires : tie.Need-next-cell-requires Inv-loop μ-loop
 next-cell-requires c κs =
@@ -53,12 +35,6 @@ next c =
 add-total : tie.Need-add-total Inv-loop μ-loop
 add-total c = omega (arith, next c .small, c .before .before .before .loop-test .taken)
 
-add-i : tie.Need-add-i Inv-loop μ-loop
-add-i c = search needs
-
-loop-less : tie.Need-loop-less Inv-loop μ-loop
-loop-less c = search needs
-
 loop-again : tie.Need-loop-again Inv-loop μ-loop
 loop-again c = let k = next c in (omega arith, k .small, k)
 
@@ -72,14 +48,14 @@ length-kept-spec =
     Inv-loop
     μ-loop
     loop-holds
-    mul-a
-    add-e
-    sub-next-cell
-    part-next-cell-start
-    part-next-cell-end
+    (λ c. search needs)
+    (λ c. search needs)
+    (λ c. search needs)
+    (λ c. search needs)
+    (λ c. search needs)
     next-cell-requires
     add-total
-    add-i
-    loop-less
+    (λ c. search needs)
+    (λ c. search needs)
     loop-again
     returns)

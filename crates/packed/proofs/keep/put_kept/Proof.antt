@@ -9,9 +9,6 @@ use Rattle.packed.proofs.Puts.{put-short, whole-put}
 use borrow.Author.Needs.{needs}
 use Rattle.packed.proofs.keep.put_kept.Statement.{statement}
 use Rattle.packed.proofs.keep.put_kept.Tie as tie
-use Rattle.packed.proofs.keep.put_kept.Reads as reads
-use Rattle.packed.proofs.keep.put_kept.Lts as lts
-use Rattle.bytes.proofs.copy.Reads as copy-reads
 
 slice-aggregate-copy : tie.Need-slice-aggregate-copy
 slice-aggregate-copy c =
@@ -23,28 +20,10 @@ copy-requires c κs =
     let p = c .before .before .before .before .before in
     omega (arith, p .pre .2, length-take-le (p .args .k) (now (p .args .cell)) (omega (arith, p .pre .0, p .pre .1)))
 
-slice-aggregate-copy-2 : tie.Need-slice-aggregate-copy-2
-slice-aggregate-copy-2 c = search needs
-
-copy-requires-2 : tie.Need-copy-requires-2
-copy-requires-2 c κs = search needs
-
-slice-aggregate-copy-3 : tie.Need-slice-aggregate-copy-3
-slice-aggregate-copy-3 c = search needs
-
-copy-requires-3 : tie.Need-copy-requires-3
-copy-requires-3 c κs = search needs
-
-same-length : tie.Need-same-length
-same-length c = search needs
-
 returns : tie.Need-returns
 returns c =
     let p = c .before .before .before .before .before .before .before .before in
     c .before .before .copy .ensures .1 ∙ copied (take (p .args .k) (now (p .args .cell))) (now (p .args .out)) ∙ sym (put-short (now (p .args .cell)) (p .args .k) (now (p .args .out)) (c .before .before .before .before .before .if1 .taken))
-
-same-length-2 : tie.Need-same-length-2
-same-length-2 c = search needs
 
 returns-2 : tie.Need-returns-2
 returns-2 c =
@@ -57,11 +36,11 @@ put-kept-spec =
     (tie.spec
     slice-aggregate-copy
     copy-requires
-    slice-aggregate-copy-2
-    copy-requires-2
-    slice-aggregate-copy-3
-    copy-requires-3
-    same-length
+    (λ c. search needs)
+    (λ c κs. search needs)
+    (λ c. search needs)
+    (λ c κs. search needs)
+    (λ c. search needs)
     returns
-    same-length-2
+    (λ c. search needs)
     returns-2)

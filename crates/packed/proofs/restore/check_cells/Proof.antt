@@ -6,22 +6,14 @@ use Prim.Native.Nat.{ℕ, _-_, _≤_, _<_}
 use native.Mathlib.Omega.{arith}
 use denote.Ref.{now}
 use lib.ListN.{length, drop, length-drop}
-use Rattle.packed.specs.Form.{promise, roleOf, size}
-use Rattle.packed.specs.Reading.{finished as finishedOf, readCell}
-use Rattle.packed.specs.Steps.{taken, NextCell}
-use Rattle.packed.specs.declared.form.Role.{Role}
+use Rattle.packed.specs.Form.{Role, promise, roleOf, size}
+use Rattle.packed.specs.Reading.{finished as finishedOf}
+use Rattle.packed.specs.Steps.{takenAs, NextCell}
 use Rattle.packed.proofs.Puts.{rest-is}
 use Rattle.packed.proofs.Turns.{Going, going-none, going-done, going-full, not-bytes, going-fault, Went, going-went, going-next}
 use borrow.Author.Needs.{needs}
 use Rattle.packed.proofs.restore.check_cells.Statement.{statement}
 use Rattle.packed.proofs.restore.check_cells.Tie as tie
-use Rattle.packed.proofs.restore.check_cells.Reads as reads
-use Rattle.packed.proofs.restore.check_cells.Lts as lts
-use Rattle.packed.proofs.form.next_cell.Reads as next-cell-reads
-use Rattle.packed.proofs.form.role_of.Reads as role-of-reads
-use Rattle.packed.proofs.restore.check_next.Reads as check-next-reads
-use Rattle.packed.proofs.restore.finished.Reads as finished-reads
-use Rattle.packed.proofs.restore.position_behind.Reads as position-behind-reads
 
 abbrev Inv-loop : tie.InvT-loop
 Inv-loop sizes packed code₀ events₀ position₀ at₀ cell₀ code events position at cell = (cell ≤ 4096) × (position ≤ cell) × (at ≤ length packed) × Going packed code events position at cell
@@ -31,21 +23,6 @@ abbrev μ-loop : tie.MeasureT-loop
 
 loop-holds : tie.Need-loop-holds Inv-loop μ-loop
 loop-holds c = (omega arith, omega arith, omega arith, going-none (now (c .before .before .args .packed)))
-
-sub-finished : tie.Need-sub-finished Inv-loop μ-loop
-sub-finished c = search needs
-
-part-finished-start : tie.Need-part-finished-start Inv-loop μ-loop
-part-finished-start c = search needs
-
-part-finished-end : tie.Need-part-finished-end Inv-loop μ-loop
-part-finished-end c = search needs
-
-finished-requires : tie.Need-finished-requires Inv-loop μ-loop
-finished-requires c κs = tt
-
-mul-t18 : tie.Need-mul-t18 Inv-loop μ-loop
-mul-t18 c = search needs
 
 -- what `finished` says of the bytes that are left
 said : (k : tie.After-finished Inv-loop μ-loop) → k .finished .result ≡ finishedOf (promise (k .before .before .before .loop .code) (k .before .before .before .loop .events)) (drop (k .before .before .before .loop .at) (now (k .before .before .before .before .before .before .args .packed)))
@@ -60,27 +37,12 @@ returns c =
     let a = l .before .before .before .args in
     going-done (now (a .packed)) (l .loop .code) (l .loop .events) (l .loop .position) (l .loop .at) (l .loop .cell) (l .loop .inv .3) (sym (said k) ∙ c .if1 .taken)
 
-role-of-requires : tie.Need-role-of-requires Inv-loop μ-loop
-role-of-requires c κs = tt
-
-sub-check-next : tie.Need-sub-check-next Inv-loop μ-loop
-sub-check-next c = search needs
-
-part-check-next-start : tie.Need-part-check-next-start Inv-loop μ-loop
-part-check-next-start c = search needs
-
-part-check-next-end : tie.Need-part-check-next-end Inv-loop μ-loop
-part-check-next-end c = search needs
-
 check-next-requires : tie.Need-check-next-requires Inv-loop μ-loop
-check-next-requires c κs = c .before .before .before .before .before .before .before .before .before .pre
-
-enum-known-next : tie.Need-enum-known-next Inv-loop μ-loop
-enum-known-next c = search needs
+check-next-requires c κs = c .before .before .before .before .before .before .before .before .pre
 
 -- the loop's state at the cell that was checked
 abbrev At : tie.After-check-next Inv-loop μ-loop → tie.At-loop Inv-loop μ-loop
-At c = c .before .before .before .before .before .before .before
+At c = c .before .before .before .before .before .before
 
 abbrev given : tie.After-check-next Inv-loop μ-loop → List ℕ
 given c = now (At c .before .before .before .args .packed)
@@ -92,31 +54,21 @@ abbrev leftAt : tie.After-check-next Inv-loop μ-loop → List ℕ
 leftAt c = drop (At c .loop .at) (given c)
 
 less : (c : tie.After-check-next Inv-loop μ-loop) → At c .loop .cell < 4096
-less c = omega (arith, c .before .before .before .before .before .before .loop-test .taken)
+less c = omega (arith, c .before .before .before .before .before .loop-test .taken)
 
 going : (c : tie.After-check-next Inv-loop μ-loop) → finishedOf (dueAt c) (leftAt c) ≡ false
-going c = sym (said (c .before .before .before .before)) ∙ c .before .before .before .if1 .left
+going c = sym (said (c .before .before .before)) ∙ c .before .before .if1 .left
 
 -- what `check_next` says of it
-answered : (c : tie.After-check-next Inv-loop μ-loop) → c .check-next .result ≡ taken (readCell (roleOf (dueAt c)) (At c .loop .position) (At c .loop .cell) (leftAt c)) (size (roleOf (dueAt c)) (leftAt c))
+answered : (c : tie.After-check-next Inv-loop μ-loop) → c .check-next .result ≡ takenAs (roleOf (dueAt c)) (At c .loop .position) (At c .loop .cell) (leftAt c)
 answered c =
-    c .check-next .ensures
-    ∙ ap₂ (λ (r : Role) (t : List ℕ). taken (readCell r (At c .loop .position) (At c .loop .cell) t) (size r t)) (c .before .before .role-of .ensures) (rest-is (given c) (At c .loop .at))
+    c .check-next .ensures ∙ ap (takenAs (roleOf (dueAt c)) (At c .loop .position) (At c .loop .cell)) (rest-is (given c) (At c .loop .at))
 
 returns-2 : tie.Need-returns-2 Inv-loop μ-loop
 returns-2 c =
     let k = c .before in
     let l = At k .loop in
     going-fault (given k) (l .code) (l .events) (l .position) (l .at) (l .cell) (l .inv .3) (less k) (going k) _ (answered k) (not-bytes _ (c .match .keys2))
-
-sub-next-cell : tie.Need-sub-next-cell Inv-loop μ-loop
-sub-next-cell c = search needs
-
-part-next-cell-start : tie.Need-part-next-cell-start Inv-loop μ-loop
-part-next-cell-start c = search needs
-
-part-next-cell-end : tie.Need-part-next-cell-end Inv-loop μ-loop
-part-next-cell-end c = search needs
 
 -- it was taken, with its k bytes
 went : (c : tie.After-known-told Inv-loop μ-loop) → Went (given (c .before .before .before)) (At (c .before .before .before) .loop .code) (At (c .before .before .before) .loop .events) (At (c .before .before .before) .loop .position) (At (c .before .before .before) .loop .at) (At (c .before .before .before) .loop .cell) (At (c .before .before .before) .loop .inv .3) (less (c .before .before .before)) (going (c .before .before .before)) (c .before .next .given .0 .0)
@@ -131,18 +83,12 @@ next-cell-requires c κs =
     (At k .before .before .before .pre, simp (rest-is (given k) (At k .loop .at)) (omega (arith, went (c .before) .is, went (c .before) .fits)))
 
 position-behind-requires : tie.Need-position-behind-requires Inv-loop μ-loop
-position-behind-requires c κs = omega (arith, c .before .before .before .before .before .before .before .before .before .before .before .before .loop .inv .1, c .before .before .before .before .before .before .before .before .before .before .before .before .loop .inv .0)
+position-behind-requires c κs = let l = c .before .before .before .before .before .before .before .before .before .before .before .loop in omega (arith, l .inv .1, l .inv .0)
 
 add-at : tie.Need-add-at Inv-loop μ-loop
 add-at c =
     let k = c .before .before .before .before .before .before in
     record { fits = omega (arith, went (c .before .before .before) .fits, length-drop (At k .loop .at) (given k), At k .loop .inv .2, At k .before .before .before .good .1 .0 .0) }
-
-add-cell : tie.Need-add-cell Inv-loop μ-loop
-add-cell c = search needs
-
-loop-less : tie.Need-loop-less Inv-loop μ-loop
-loop-less c = search needs
 
 loop-again : tie.Need-loop-again Inv-loop μ-loop
 loop-again c =
@@ -152,21 +98,6 @@ loop-again c =
     let n : NextCell (l .code) (l .events) (leftAt k) (c .before .next-cell .result) = rw (rest-is (given k) (l .at)) at (c .before .next-cell .ensures) in
     let g = going-next (given k) (l .code) (l .events) (l .position) (l .at) (l .cell) (l .inv .3) (less k) (going k) _ _ (c .before .next-cell .result) w n (c .position-behind .ensures) in
     (omega (arith, less k), g .place, g .within, g)
-
-sub-finished-2 : tie.Need-sub-finished-2 Inv-loop μ-loop
-sub-finished-2 c = search needs
-
-part-finished-start-2 : tie.Need-part-finished-start-2 Inv-loop μ-loop
-part-finished-start-2 c = search needs
-
-part-finished-end-2 : tie.Need-part-finished-end-2 Inv-loop μ-loop
-part-finished-end-2 c = search needs
-
-finished-requires-2 : tie.Need-finished-requires-2 Inv-loop μ-loop
-finished-requires-2 c κs = tt
-
-mul-t30 : tie.Need-mul-t30 Inv-loop μ-loop
-mul-t30 c = search needs
 
 returns-3 : tie.Need-returns-3 Inv-loop μ-loop
 returns-3 c =
@@ -189,32 +120,31 @@ check-cells-spec =
     Inv-loop
     μ-loop
     loop-holds
-    sub-finished
-    part-finished-start
-    part-finished-end
-    finished-requires
-    mul-t18
+    (λ c. search needs)
+    (λ c. search needs)
+    (λ c. search needs)
+    (λ c κs. tt)
+    (λ c. search needs)
     returns
-    role-of-requires
-    sub-check-next
-    part-check-next-start
-    part-check-next-end
+    (λ c. search needs)
+    (λ c. search needs)
+    (λ c. search needs)
     check-next-requires
-    enum-known-next
+    (λ c. search needs)
     returns-2
-    sub-next-cell
-    part-next-cell-start
-    part-next-cell-end
+    (λ c. search needs)
+    (λ c. search needs)
+    (λ c. search needs)
     next-cell-requires
     position-behind-requires
     add-at
-    add-cell
-    loop-less
+    (λ c. search needs)
+    (λ c. search needs)
     loop-again
-    sub-finished-2
-    part-finished-start-2
-    part-finished-end-2
-    finished-requires-2
-    mul-t30
+    (λ c. search needs)
+    (λ c. search needs)
+    (λ c. search needs)
+    (λ c κs. tt)
+    (λ c. search needs)
     returns-3
     returns-4)

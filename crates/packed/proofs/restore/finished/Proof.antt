@@ -3,18 +3,13 @@ use denote.Ref.{now}
 use Rattle.packed.proofs.Promises.{some-code, some-event, nothing-due, is-empty}
 use Rattle.packed.proofs.restore.finished.Statement.{statement}
 use Rattle.packed.proofs.restore.finished.Tie as tie
-use Rattle.packed.proofs.restore.finished.Reads as reads
-use Rattle.packed.proofs.restore.finished.Lts as lts
 
--- src/restore.rt:120:9
 returns : tie.Need-returns
 returns c = rw (some-code _ _ (c .if1 .taken))
 
--- src/restore.rt:123:9
 returns-2 : tie.Need-returns-2
 returns-2 c = rw (some-event _ _ (c .before .if1 .left) (c .if2 .taken))
 
--- src/restore.rt:116:1
 returns-3 : tie.Need-returns-3
 returns-3 c = rw (nothing-due _ _ (c .before .if1 .left) (c .if2 .left)) (is-empty (now (c .before .before .args .s)))
 

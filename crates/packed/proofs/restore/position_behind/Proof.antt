@@ -3,24 +3,15 @@ use Rattle.packed.proofs.Promises.{some-code, some-event, nothing-due}
 use borrow.Author.Needs.{needs}
 use Rattle.packed.proofs.restore.position_behind.Statement.{statement}
 use Rattle.packed.proofs.restore.position_behind.Tie as tie
-use Rattle.packed.proofs.restore.position_behind.Reads as reads
-use Rattle.packed.proofs.restore.position_behind.Lts as lts
 
--- src/restore.rt:134:9
 returns : tie.Need-returns
 returns c = rw (some-code _ _ (c .if1 .taken))
 
--- src/restore.rt:137:9
 returns-2 : tie.Need-returns-2
 returns-2 c = rw (some-event _ _ (c .before .if1 .left) (c .if2 .taken))
 
--- src/restore.rt:139:5
-add-result : tie.Need-add-result
-add-result c = search needs
-
--- src/restore.rt:129:1
 returns-3 : tie.Need-returns-3
 returns-3 c = rw (nothing-due _ _ (c .before .if1 .left) (c .if2 .left))
 
 pub position-behind-spec : {M : Type 1} → statement M
-position-behind-spec = tie.close (tie.spec returns returns-2 add-result returns-3)
+position-behind-spec = tie.close (tie.spec returns returns-2 (λ c. search needs) returns-3)

@@ -1,116 +1,92 @@
 -- `packed::restore::restore_cells` meets its contract.
-use mathlib.Core.Path.{_≡_, refl, sym, _∙_}
+use mathlib.Core.Path.{_≡_, refl, ap, sym, _∙_}
 use mathlib.Core.List.{List}
-use Prim.Native.Nat.{ℕ, _+_, _-_, _≤_}
+use Prim.Native.Nat.{ℕ, _-_, _≤_, _<_}
 use native.Mathlib.Omega.{arith}
 use denote.Ref.{now}
 use lib.ListN.{length, drop, length-drop}
-use Rattle.packed.specs.Form.{promise, roleOf}
+use Rattle.packed.specs.Form.{Role, promise, roleOf, rowSize, size as sizeOf}
 use Rattle.packed.specs.Steps.{NextCell}
-use Rattle.packed.proofs.Widths.{size-fits}
+use Rattle.packed.proofs.Widths.{size-some, size-fits}
 use Rattle.packed.proofs.Puts.{rest-is}
-use Rattle.packed.proofs.Turns.{Restoring, restoring-none, restoring-left, restoring-there, restoring-next, restoring-end}
+use Rattle.packed.proofs.Turns.{Restoring, restoring-none, Left, restoring-left, restoring-next, restoring-end}
 use borrow.Author.Needs.{needs}
 use Rattle.packed.proofs.restore.restore_cells.Statement.{statement}
 use Rattle.packed.proofs.restore.restore_cells.Tie as tie
-use Rattle.packed.proofs.restore.restore_cells.Reads as reads
-use Rattle.packed.proofs.restore.restore_cells.Lts as lts
-use Rattle.packed.proofs.form.next_cell.Reads as next-cell-reads
-use Rattle.packed.proofs.restore.put_restored.Reads as put-restored-reads
 
 abbrev Inv-loop : tie.InvT-loop
-Inv-loop sizes packed out₀ code₀ events₀ at₀ to₀ out code events at to = (length out ≡ length out₀) × (to ≤ length out) × (at ≤ length packed) × Restoring packed out code events at to
+Inv-loop sizes packed out₀ code₀ events₀ row₀ size₀ at₀ to₀ out code events row size at to =
+    (length out ≡ length out₀) × (to ≤ length out) × (at ≤ length packed) × (size ≡ rowSize row) × Restoring packed out code events at to
 
 abbrev μ-loop : tie.MeasureT-loop
-μ-loop sizes packed out₀ code₀ events₀ at₀ to₀ out code events at to = length out - to
+μ-loop sizes packed out₀ code₀ events₀ row₀ size₀ at₀ to₀ out code events row size at to = length out - to
 
 loop-holds : tie.Need-loop-holds Inv-loop μ-loop
-loop-holds c = (refl, omega arith, omega arith, restoring-none (now (c .before .before .before .args .packed)) (now (c .before .before .before .args .out)) (c .before .before .before .pre .1))
+loop-holds c =
+    let a = c .before .before .before .before in
+    (refl, omega arith, omega arith, c .size-at .ensures, restoring-none (now (a .args .packed)) (now (a .args .out)) (a .pre .1))
 
-sub-next-cell : tie.Need-sub-next-cell Inv-loop μ-loop
-sub-next-cell c = search needs
+-- in a turn: the bytes given, those that are left, and the cell at their start
+abbrev given : tie.At-loop Inv-loop μ-loop → List ℕ
+given c = now (c .before .before .before .before .before .args .packed)
 
-part-next-cell-start : tie.Need-part-next-cell-start Inv-loop μ-loop
-part-next-cell-start c = search needs
+abbrev leftAt : tie.At-loop Inv-loop μ-loop → List ℕ
+leftAt c = drop (c .loop .at) (given c)
 
-part-next-cell-end : tie.Need-part-next-cell-end Inv-loop μ-loop
-part-next-cell-end c = search needs
+abbrev roleAt : tie.At-loop Inv-loop μ-loop → Role
+roleAt c = roleOf (promise (c .loop .code) (c .loop .events))
+
+left : (c : tie.At-loop Inv-loop μ-loop) → c .loop .to < length (c .loop .out) → Left (given c) (c .loop .out) (c .loop .code) (c .loop .events) (c .loop .at) (c .loop .to)
+left c h = let l = c .loop in restoring-left (given c) (l .out) (l .code) (l .events) (l .at) (l .to) (l .inv .4) h
+
+row-of-requires : tie.Need-row-of-requires Inv-loop μ-loop
+row-of-requires c κs =
+    let l = c .before .before in
+    rw (rest-is (given l) (l .loop .at)) (omega (arith, left l (c .before .loop-test .taken) .fits, size-some (roleAt l) (leftAt l)))
 
 next-cell-requires : tie.Need-next-cell-requires Inv-loop μ-loop
 next-cell-requires c κs =
-    let a = c .before .before .before .before .before .before in
-    let l = c .before .before .loop in
-    let s = now (a .args .packed) in
-    let w = restoring-left s (l .out) (l .code) (l .events) (l .at) (l .to) (l .inv .3) (c .before .loop-test .taken) in
-    (a .pre .0, rw (rest-is s (l .at)) (w .fits))
+    let l = c .before .before .before .before .before in
+    (l .before .before .before .before .before .pre .0, rw (rest-is (given l) (l .loop .at)) (left l (c .before .before .before .before .loop-test .taken) .fits))
 
-sub-put-restored : tie.Need-sub-put-restored Inv-loop μ-loop
-sub-put-restored c = search needs
+-- its size, and what is promised behind it
+size-is : (c : tie.After-next-cell Inv-loop μ-loop) → c .before .before .size-again .result ≡ sizeOf (roleAt (c .before .before .before .before .before .before)) (leftAt (c .before .before .before .before .before .before))
+size-is c =
+    let l = c .before .before .before .before .before .before in
+    c .before .before .size-again .ensures ∙ ap rowSize (c .before .before .before .row-of .ensures) ∙ ap (sizeOf (roleAt l)) (rest-is (given l) (l .loop .at))
 
-part-put-restored-start : tie.Need-part-put-restored-start Inv-loop μ-loop
-part-put-restored-start c = search needs
-
-part-put-restored-end : tie.Need-part-put-restored-end Inv-loop μ-loop
-part-put-restored-end c = search needs
-
-sub-put-restored-2 : tie.Need-sub-put-restored-2 Inv-loop μ-loop
-sub-put-restored-2 c = search needs
-
-part-put-restored-start-2 : tie.Need-part-put-restored-start-2 Inv-loop μ-loop
-part-put-restored-start-2 c = search needs
-
-part-put-restored-end-2 : tie.Need-part-put-restored-end-2 Inv-loop μ-loop
-part-put-restored-end-2 c = search needs
+next : (c : tie.After-next-cell Inv-loop μ-loop) → NextCell (c .before .before .before .before .before .before .loop .code) (c .before .before .before .before .before .before .loop .events) (leftAt (c .before .before .before .before .before .before)) (c .next-cell .result)
+next c = let l = c .before .before .before .before .before .before in rw (rest-is (given l) (l .loop .at)) at (c .next-cell .ensures)
 
 put-restored-requires : tie.Need-put-restored-requires Inv-loop μ-loop
 put-restored-requires c κs =
-    let l = c .before .before .before .before .before .loop in
-    let s = now (c .before .before .before .before .before .before .before .before .before .args .packed) in
-    let w = restoring-left s (l .out) (l .code) (l .events) (l .at) (l .to) (l .inv .3) (c .before .before .before .before .loop-test .taken) in
-    let n : NextCell (l .code) (l .events) (drop (l .at) s) (c .before .before .next-cell .result) = rw (rest-is s (l .at)) at (c .before .before .next-cell .ensures) in (
-      rw (rest-is s (l .at)) (omega (arith, n .keeps, w .fits)),
-      omega (arith, n .keeps, size-fits (roleOf (promise (l .code) (l .events))) (drop (l .at) s)),
-      rw (rest-is (l .out) (l .to)) (omega (arith, length-drop (l .to) (l .out), w .long)),
+    let n = c .before .before in
+    let l = c .before .before .before .before .before .before .before .before in
+    let w = left l (c .before .before .before .before .before .before .before .loop-test .taken) in (
+      rw (rest-is (given l) (l .loop .at)) (omega (arith, size-is n, w .fits)),
+      omega (arith, size-is n, size-fits (roleAt l) (leftAt l)),
+      rw (rest-is (l .loop .out) (l .loop .to)) (omega (arith, length-drop (l .loop .to) (l .loop .out), w .long)),
     )
 
 -- past the cell that was put
-abbrev At : tie.After-slice-known2 Inv-loop μ-loop → tie.At-loop Inv-loop μ-loop
-At c = c .before .before .before .before .before .before .before .before
-
-abbrev given : tie.After-slice-known2 Inv-loop μ-loop → List ℕ
-given c = now (At c .before .before .before .before .args .packed)
-
--- the cell behind the bytes that were left
-next : (c : tie.After-slice-known2 Inv-loop μ-loop) → NextCell (At c .loop .code) (At c .loop .events) (drop (At c .loop .at) (given c)) (c .before .before .before .before .before .next-cell .result)
-next c = rw (rest-is (given c) (At c .loop .at)) at (c .before .before .before .before .before .next-cell .ensures)
-
 add-at : tie.Need-add-at Inv-loop μ-loop
 add-at c =
-    let l = At c .loop in
-    let h = c .before .before .before .before .before .before .before .loop-test .taken in
-    let w = restoring-there (given c) (l .out) (l .code) (l .events) (l .at) (l .to) (l .inv .3) _ h (next c) in
-    record { fits = omega (arith, w, At c .before .before .before .before .good .1 .0 .0) }
-
-add-to : tie.Need-add-to Inv-loop μ-loop
-add-to c = search needs
-
-loop-less : tie.Need-loop-less Inv-loop μ-loop
-loop-less c = search needs
+    let l = c .before .before .before .before .before .before .before .before .before .before .before in
+    record { fits = omega (arith, size-is (c .before .before .before .before .before), left l (c .before .before .before .before .before .before .before .before .before .before .loop-test .taken) .fits, length-drop (l .loop .at) (given l), l .loop .inv .2, l .before .before .before .before .before .good .1 .0 .0) }
 
 loop-again : tie.Need-loop-again Inv-loop μ-loop
 loop-again c =
-    let l = At c .loop in
-    let h = c .before .before .before .before .before .before .before .loop-test .taken in
-    let (same, k) = restoring-next (given c) (l .out) (l .code) (l .events) (l .at) (l .to) (l .inv .3) _ _ h (next c) (rw (rest-is (given c) (l .at)) at (c .before .before .put-restored .ensures)) in
-    (same ∙ l .inv .0, omega (arith, k .long), k .within, k)
-
-same-length : tie.Need-same-length Inv-loop μ-loop
-same-length c = search needs
+    let n = c .before .before .before .before .before in
+    let l = c .before .before .before .before .before .before .before .before .before .before .before in
+    let v = l .loop in
+    let e = size-is n ∙ sym (next n .keeps) in
+    let (same, k) = restoring-next (given l) (v .out) (v .code) (v .events) (v .at) (v .to) (v .inv .4) (n .next-cell .result) _ (c .before .before .before .before .before .before .before .before .before .before .loop-test .taken) (next n) (rw (rest-is (given l) (v .at), e) at (c .before .before .put-restored .ensures)) in
+    (same ∙ v .inv .0, omega (arith, k .long), rw e (k .within), n .before .before .size-again .ensures, rw e k)
 
 returns : tie.Need-returns Inv-loop μ-loop
 returns c =
     let l = c .before .loop in
-    restoring-end (now (c .before .before .before .before .before .args .packed)) (l .out) (l .code) (l .events) (l .at) (l .to) (l .inv .3) (c .loop-test .left)
+    restoring-end (given (c .before)) (l .out) (l .code) (l .events) (l .at) (l .to) (l .inv .4) (c .loop-test .left)
 
 pub restore-cells-spec : {M : Type 1} → statement M
 restore-cells-spec =
@@ -118,21 +94,27 @@ restore-cells-spec =
     (tie.spec
     Inv-loop
     μ-loop
+    (λ c κs. search needs)
     loop-holds
-    sub-next-cell
-    part-next-cell-start
-    part-next-cell-end
+    (λ c. search needs)
+    (λ c. search needs)
+    (λ c. search needs)
+    row-of-requires
+    (λ c κs. search needs)
+    (λ c. search needs)
+    (λ c. search needs)
+    (λ c. search needs)
     next-cell-requires
-    sub-put-restored
-    part-put-restored-start
-    part-put-restored-end
-    sub-put-restored-2
-    part-put-restored-start-2
-    part-put-restored-end-2
+    (λ c. search needs)
+    (λ c. search needs)
+    (λ c. search needs)
+    (λ c. search needs)
+    (λ c. search needs)
+    (λ c. search needs)
     put-restored-requires
     add-at
-    add-to
-    loop-less
+    (λ c. search needs)
+    (λ c. search needs)
     loop-again
-    same-length
+    (λ c. search needs)
     returns)
