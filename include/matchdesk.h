@@ -1,6 +1,6 @@
 /*
  * The MatchDesk rewrite: image checks, cleanup, CrystalFold and the two whole rewrites of cell images (docs/FORMAT.md says what an image is), the
- * pages of an image, and the other factor of a product.
+ * pages and the packed form of an image, and the other factor of a product.
  *
  * Library: target/staticlib/libcapi.a for Linux on x86-64, made by `rt staticlib capi`. Every function is proved to meet its contract
  * (crates/capi/specs/Contracts.antt), for images of all bytes and lengths, outputs of all lengths and all numbers.
@@ -28,11 +28,11 @@
 #endif
 
 /* The version of this interface: it rises when a function is added or an answer changes. */
-#define MATCHDESK_VERSION 6
+#define MATCHDESK_VERSION 7
 
 /* The bytes of a cell. */
 #define MATCHDESK_CELL 16
-/* The longest image, in bytes. For a rewrite an output as long as the image always suffices. */
+/* The longest image, in bytes. For a rewrite and for matchdesk_pack an output as long as the image always suffices, for matchdesk_unpack this. */
 #define MATCHDESK_MAX_IMAGE 65536
 /* The most instruction cells and the most event cells of a function. */
 #define MATCHDESK_MAX_INSTRUCTIONS 2048
@@ -46,9 +46,9 @@
 /*
  * A call takes no more stack than this, in bytes, whatever the image. Measured, not proved (tests/cinterface/stack.c paints a stack and looks
  * how far each call went): 21 KiB for matchdesk_cleanup and the two rewrites, 19 KiB for matchdesk_crystalfold, 17 KiB for
- * matchdesk_pages, 14 KiB for matchdesk_site_check, under 1 KiB for matchdesk_image_check and the factors. The rest is reserve. The frames have fixed sizes,
- * and no function calls itself. What a thread needs for itself comes on top: one made with a stack of 28 KiB could call matchdesk_rewrite, one
- * of 24 KiB could not.
+ * matchdesk_pages, 14 KiB for matchdesk_site_check, under 1 KiB for matchdesk_image_check, matchdesk_pack, matchdesk_unpack and the factors. The
+ * rest is reserve. The frames have fixed sizes, and no function calls itself. What a thread needs for itself comes on top: one made with a stack
+ * of 28 KiB could call matchdesk_rewrite, one of 24 KiB could not.
  */
 #define MATCHDESK_STACK 32768
 
@@ -144,6 +144,47 @@ size_t matchdesk_rewrite_fuller(const unsigned char *image, size_t image_length,
  *   refusal    position, as above; 0 for 30   detail, as above; 0 for 30          every byte as it was
  */
 size_t matchdesk_pages(const unsigned char *image, size_t image_length, unsigned char *out, size_t out_length, size_t *first, size_t *second);
+
+/*
+ * The packed form of an image: its cells one behind the other, each without its spare zeros. A head keeps 7 bytes, an event 15, an instruction the
+ * command byte and its operands, 3 to 15 bytes (docs/FORMAT.md, 'Commands'); an absent value keeps its zeros. The empty image packs to no bytes.
+ * Neither function checks sites.
+ *
+ * Both return 0 on success, and else the refusal's number:
+ *
+ *              *first                         *second                             out
+ *   success    length written, in bytes       0                                   the packed form, or the image, up to that
+ *                                                                                 length, behind it every byte as it was
+ *   refusal    position                       detail                              every byte as it was
+ *
+ * matchdesk_unpack undoes matchdesk_pack and the other way round: no two images pack alike, and no image has two packed forms.
+ */
+
+/*
+ * Packs an image. Refuses as the image check, with its position and detail; then
+ *
+ *    5  the output is shorter than the packed form; one as long as the image always suffices; position and detail are 0
+ */
+size_t matchdesk_pack(const unsigned char *image, size_t image_length, unsigned char *out, size_t out_length, size_t *first, size_t *second);
+
+/*
+ * Unpacks an image, which then passes the image check. The packed form is read cell by cell, and the first cell at fault decides. Of each cell, in
+ * this order:
+ *
+ *    1  the cell, there or only promised by its head, takes the image past 65,536 bytes
+ *    3  unknown command or event kind, even if nothing follows that byte
+ *   32  the packed form ends inside the cell, or before it where it is promised
+ *    2  a head whose first byte isn't F0, or whose counts pass a limit
+ *    4  an operand out of range, or an absent value that isn't zero
+ *
+ * and behind all cells
+ *
+ *    5  the output is shorter than the image; MATCHDESK_MAX_IMAGE bytes always suffice
+ *
+ * For 2, 3, 4 and 32 the position is the function's and the detail the cell's in the whole image, both counted from 0; for 1 and 5 both are 0. A
+ * head that promises more cells than can follow isn't at fault by that: the first of them that is missing, wrong or past 65,536 bytes is.
+ */
+size_t matchdesk_unpack(const unsigned char *packed, size_t packed_length, unsigned char *out, size_t out_length, size_t *first, size_t *second);
 
 /*
  * Which factor gives this product? Of all int32_t numbers whose product with `factor` is `wanted`, the one nearest zero, and of two equally near
