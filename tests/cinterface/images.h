@@ -13,9 +13,10 @@
 
 /*
  * Writes an image and returns its length. A word of the text is a cell in hexadecimal, without the zeros at its end; `2048*0A0100` is so many
- * cells; `=00` is bytes with nothing behind them. So "F0070001 0A0100" is function 7 with the instruction Label 1.
+ * cells; `=00` is bytes with nothing behind them. So "F0070001 0A0100" is function 7 with the instruction Label 1. Where `packed` is set every word
+ * is bytes with nothing behind them: "F0070001000000 0A0100", each cell in all the bytes that it keeps, is the packed form of the same image.
  */
-static inline size_t assemble(const char *text, unsigned char *to)
+static inline size_t assemble_as(int packed, const char *text, unsigned char *to)
 {
     size_t length = 0;
     while (*text != '\0') {
@@ -28,10 +29,21 @@ static inline size_t assemble(const char *text, unsigned char *to)
         for (unsigned byte; sscanf(text, "%2x", &byte) == 1 && *text != ' ' && *text != '\0'; text += 2)
             cell[bytes++] = (unsigned char)byte;
         text += strspn(text, " ");
-        for (size_t i = 0; i < times; i++, length += bare ? bytes : MATCHDESK_CELL)
-            memcpy(to + length, cell, bare ? bytes : MATCHDESK_CELL);
+        size_t size = bare || packed ? bytes : MATCHDESK_CELL;
+        for (size_t i = 0; i < times; i++, length += size)
+            memcpy(to + length, cell, size);
     }
     return length;
+}
+
+static inline size_t assemble(const char *text, unsigned char *to)
+{
+    return assemble_as(0, text, to);
+}
+
+static inline size_t assemble_packed(const char *text, unsigned char *to)
+{
+    return assemble_as(1, text, to);
 }
 
 #endif

@@ -312,6 +312,190 @@ static const struct long_pages {
     {"4096*F00700", 4096, {{4095, "function 00007 page 001                                  "}}},
 };
 
+/*
+ * The packed form, document 02's W8. In all these texts a word is a cell in the bytes that it keeps, and the packed form is these bytes. The image
+ * has each word filled up with zeros; only the printed example's is written out.
+ */
+#define BORROW "000000000000000000000000000000"
+#define WRITE "0101A1B2C3D401E5F60718293A4B5C"
+#define STORE_VAR "4DA1B2010201C3D4E5F60118293A4B"
+static const struct kept {
+    const char *packed, *image;
+} kept[] = {
+    /* document 01's printed example, as it is sent and as it is handed back */
+    {"F0070003000000 2B010005000000 13020001000100 0C010200",
+     "F0070003000000000000000000000000 2B010005000000000000000000000000 13020001000100000000000000000000 0C010200000000000000000000000000"},
+    {"F0070003000000 2B010005000000 2B02000A000000 0C010200",
+     "F0070003000000000000000000000000 2B010005000000000000000000000000 2B02000A000000000000000000000000 0C010200000000000000000000000000"},
+    /* nothing, functions with no cells, one with cells between two without */
+    {"", NULL},
+    {"F0070000000000", NULL},
+    {"F0FFFF00000000 F0000000000000", NULL},
+    {"F0010000000000 F0020001000100 0A0100 " BORROW " F0030000000000", NULL},
+    /* operands that look like heads */
+    {"F0F0F002000000 08F0F0 2BF000F0F0F0F0 F0F0F001000000 29F000F0F0F0F0F0F0F0F0", NULL},
+    /* wrong sites, in the order of the site check: 11, 12, 14, 22, 23, 24 */
+    {"F0070002000000 4D0000000001090000000000000000 4D0000000001090000000000000000", NULL},
+    {"F0070000000100 010109000000000000000000000000", NULL},
+    {"F0070001000000 4D0000000001090000000000000000", NULL},
+    {"F0070000000100 000000000000010500000000000000", NULL},
+    {"F0070000000100 010000000000000000000000000000", NULL},
+    {"F0070001000000 320000000000000105000000", NULL},
+    /* 2,048 instructions and 1,024 events */
+    {"F0070000080004 2048*0A0100 1024*" BORROW, NULL},
+    /* 4,096 cells: heads alone, the shortest packed form, the longest */
+    {"4096*F0070000000000", NULL},
+    {"F0070000080000 2048*0A0100 F00800FE070000 2046*0A0100", NULL},
+    {"F0070000080004 2048*" STORE_VAR " 1024*" WRITE " F00800FE030000 1022*" STORE_VAR, NULL},
+};
+
+/* A cell of each command, 01 to 51, and of each kind of event, with no byte zero that may be another. */
+#define HEAD_BYTES 7
+#define ONE_INSTRUCTION "F0070001000000 "
+#define ONE_EVENT "F0070000000100 "
+static const char *const commands[] = {
+    "010102", "02010102A1B2C3D4", "030102", "04010102A1B2C3D4", "05A1B2", "060102A1B2C3D4", "07A1B2C3D40102", "08A1B2",
+    "090102A1B2", "0AA1B2", "0BA1B2", "0C010102", "0D0102A1B2C3D4", "0E0102A1B2", "0F0102A1B2", "10A1B20102",
+    "11010203020503", "12010203020503", "13010203020503", "1401020302A1B2C3D4", "1501020302A1B2", "16010203020503", "1701020302", "18010203020503",
+    "19010203020503", "1A010203020503", "1B010203020503", "1C010203020503", "1D010203020503", "1E010203020503", "1F010203020503", "20010203020503",
+    "21010203020503", "22010203020503", "23010203020503", "24010203020503", "25010203020503", "26010203020503", "27010203020503", "28010201",
+    "290102A1B2C3D4E5F60718", "2A0102A1B2C3D4", "2B0102A1B2C3D4", "2C010203", "2D0102A1B2", "2E0102A1B2C3D4", "2F0102A1B2", "300102A1B2C3D4E5F60718293A",
+    "310102A1B2C3D4", "320102A1B2C3D401E5F60718", "330102A1B2", "340102A1B2", "350102A1B2C3D4", "360102", "370102A1B2C3D4E5F6", "380102A1B2C3D4E5F6",
+    "39010203020503", "3A010203020503", "3B010203020503", "3C010203020503", "3D010203020503", "3E010203020503", "3F01020302", "40010203020503",
+    "41010203020503", "42010203020503", "4301020302", "44010203020503", "4501020302A1B2C3D4", "460102A1B2C3D4", "4701020302A1B2", "4801020302",
+    "4901020302", "4A01020302", "4B0102A1B2C3D4", "4C0102A1B2C3D4", STORE_VAR, "4E010203020503", "4F010203020503", "50010203020503",
+    "5101020302A1B2",
+}, *const events[] = {"0001A1B2C3D401E5F60718293A4B5C", WRITE};
+
+/* Cells that are wrong when they are whole: heads, 2; instructions and events, 4. */
+static const char *const wrong_heads[] = {
+    /* no F0; 2,049 instructions; 1,025 events */
+    "00000000000000", "F1070000000000", "EF070000000000", "FF070001000000", "F0070001080000", "F0070000000104", "F00700FFFFFFFF",
+}, *const wrong_instructions[] = {
+    /* register 1,024 in every role: cond, dst, lhs and rhs, src, an optional dst and an optional src */
+    "010004", "090004A1B2", "030004", "13000400000000", "13000000040000", "13000000000004", "1700000004", "4D0500000400000000000000000000",
+    "02010004A1B2C3D4", "04010004A1B2C3D4", "0C010004", "0C01FFFF",
+    /* a presence byte of 2; an absent register that isn't zero */
+    "0C020000", "02020000A1B2C3D4", "0C000100", "0C000001", "02000100A1B2C3D4", "04000001A1B2C3D4",
+    /* no bool, no quad */
+    "28000002", "280000FF", "2C000004", "2C0000FF",
+    /* sites: a presence byte of 2, and an absent one that isn't zero */
+    "4D0000000002000000000000000000", "4D0000000000010000000000000000", "4D0000000000000000010000000000", "4D0000000000000000000200000000",
+    "4D0000000000000000000001000000", "4D0000000000000000000000000001", "320000000000000200000000",
+    "320000000000000001000000", "320000000000000000000001",
+}, *const wrong_events[] = {
+    "000200000000000000000000000000", "000001000000000000000000000000", "000000000001000000000000000000", "000000000000020000000000000000",
+    "000000000000000100000000000000", "000000000000000000000100000000", "010200000000000000000000000000", "010000000000000000000100000000",
+};
+
+/* 4,095 cells, and two more promised, of which one fits: instructions, events. 4,096 cells, and none promised. */
+#define INSTRUCTION_LEFT "F0070000080000 2048*0A0100 F00800FF070000 2045*0A0100 "
+#define EVENT_LEFT "F0070000080004 2048*0A0100 1024*" BORROW " F00800FD030200 1021*0A0100 "
+#define NONE_LEFT "F0070000080000 2048*0A0100 F00800FE070000 2046*0A0100 "
+/* Two functions of three cells. */
+#define BEHIND "F0010000000000 F0020001000000 0A0100 "
+
+static const struct unread {
+    const char *packed;
+    struct answer unpack;
+} unread[] = {
+    /* each number at its smallest packed form, but for 4, which stands above: 32, 2, 3, and 1 where a cell is promised */
+    {"F0", {32, 0, 0}},
+    {"F0070001000000", {32, 0, 1}},
+    {"F0070000000100", {32, 0, 1}},
+    {"F1070000000000", {2, 0, 0}},
+    {"F0070001000000 00", {3, 0, 1}},
+    {"F0070000000100 02", {3, 0, 1}},
+    {INSTRUCTION_LEFT "0A0100", {1, 0, 0}},
+    /* unknown commands and kinds, which need nothing behind them but may have it */
+    {"F0070001000000 52", {3, 0, 1}},
+    {"F0070001000000 F0", {3, 0, 1}},
+    {"F0070001000000 FF", {3, 0, 1}},
+    {"F0070001000000 00000000000000000000000000000000", {3, 0, 1}},
+    {"F0070001000000 52000000000000000000000000000000", {3, 0, 1}},
+    {"F0070001000000 F0070000000000", {3, 0, 1}},
+    {"F0070000000100 0A0100", {3, 0, 1}},
+    {"F0070000000100 FF", {3, 0, 1}},
+    {"F0070000000100 02000000000000000000000000000000", {3, 0, 1}},
+    /* 0 and 1 are event kinds, but 0 is no command; 1 is one */
+    {"F0070001000100 " BORROW " " BORROW, {3, 0, 1}},
+    {"F0070001000100 010000", {32, 0, 2}},
+    /* 2,048 and 1,024 may be promised */
+    {"F0070000080004", {32, 0, 1}},
+    {"F0070000080004 2048*0A0100", {32, 0, 2049}},
+    {"F0070000080004 2048*0A0100 1023*" BORROW, {32, 0, 3072}},
+    /* 2,049 and 1,025 are there, but may not be promised */
+    {"F0070001080000 2049*0A0100", {2, 0, 0}},
+    {"F0070000000104 1025*" BORROW, {2, 0, 0}},
+    /* bytes left over begin a head: the zeros of unpacked cells too */
+    {"F0070000000000 F0", {32, 1, 1}},
+    {"F0070000000000 00", {32, 1, 1}},
+    {"F0070001000000 0A0100 00", {32, 1, 2}},
+    {"F0070000000000 000000000000000000", {2, 1, 1}},
+    {"F0070000000000 0A0100", {32, 1, 1}},
+    {"F0070000000000 2B010005000000", {2, 1, 1}},
+    {"F0070003000000000000000000000000 2B010005000000000000000000000000 13020001000100000000000000000000 0C010200000000000000000000000000", {3, 0, 1}},
+    /* two cells at fault: the first decides */
+    {"F0070002000000 2B000400000000 00", {4, 0, 1}},
+    {"F0070002000000 2B000400000000", {4, 0, 1}},
+    {"F0070002000000 00 2B000400000000", {3, 0, 1}},
+    {"F0070001000000 010004 F1070000000000", {4, 0, 1}},
+    {"F1070001000000 00", {2, 0, 0}},
+    {"F1070001000000", {2, 0, 0}},
+    {"F0070001080000 00", {2, 0, 0}},
+    /* behind two functions of three cells */
+    {BEHIND "F1030000000000", {2, 2, 3}},
+    {BEHIND "F00300000001", {32, 2, 3}},
+    {BEHIND "F0030001000100", {32, 2, 4}},
+    {BEHIND "F0030001000100 00", {3, 2, 4}},
+    {BEHIND "F0030001000100 0A01", {32, 2, 4}},
+    {BEHIND "F0030001000100 010004", {4, 2, 4}},
+    {BEHIND "F0030001000100 0A0100", {32, 2, 5}},
+    {BEHIND "F0030001000100 0A0100 02", {3, 2, 5}},
+    {BEHIND "F0030001000100 0A0100 0000000000000000000000000000", {32, 2, 5}},
+    {BEHIND "F0030001000100 0A0100 000200000000000000000000000000", {4, 2, 5}},
+    {BEHIND "F0030001000100 0A0100 " BORROW " 00", {32, 3, 6}},
+    {BEHIND "F0030001000100 0A0100 " BORROW " F1070000000000", {2, 3, 6}},
+    /* the last cell that fits, missing, cut off and wrong */
+    {INSTRUCTION_LEFT, {32, 1, 4095}},
+    {INSTRUCTION_LEFT "00", {3, 1, 4095}},
+    {INSTRUCTION_LEFT "0A01", {32, 1, 4095}},
+    {INSTRUCTION_LEFT "010004", {4, 1, 4095}},
+    {EVENT_LEFT, {32, 1, 4095}},
+    {EVENT_LEFT "02", {3, 1, 4095}},
+    {EVENT_LEFT "0000", {32, 1, 4095}},
+    {EVENT_LEFT "000200000000000000000000000000", {4, 1, 4095}},
+    {"4095*F0070000000000 F0", {32, 4095, 4095}},
+    {"4095*F0070000000000 F1070001000000", {2, 4095, 4095}},
+    {"4095*F0070000000000 F0070001080000", {2, 4095, 4095}},
+    /* the next one doesn't: there, unknown, cut off, out of range, promised, and a head */
+    {INSTRUCTION_LEFT "0A0100 0A0100", {1, 0, 0}},
+    {INSTRUCTION_LEFT "0A0100 00", {1, 0, 0}},
+    {INSTRUCTION_LEFT "0A0100 0A01", {1, 0, 0}},
+    {INSTRUCTION_LEFT "0A0100 010004", {1, 0, 0}},
+    {EVENT_LEFT BORROW, {1, 0, 0}},
+    {EVENT_LEFT BORROW " " BORROW, {1, 0, 0}},
+    {EVENT_LEFT BORROW " 02", {1, 0, 0}},
+    {EVENT_LEFT BORROW " 0000", {1, 0, 0}},
+    {EVENT_LEFT BORROW " 000200000000000000000000000000", {1, 0, 0}},
+    {"4095*F0070000000000 F0070001000000", {1, 0, 0}},
+    {"4095*F0070000000000 F0070000000100", {1, 0, 0}},
+    {NONE_LEFT "F0070000000000", {1, 0, 0}},
+    {NONE_LEFT "F0", {1, 0, 0}},
+    {NONE_LEFT "00", {1, 0, 0}},
+    {NONE_LEFT "F1070000000000", {1, 0, 0}},
+    {NONE_LEFT "F0070001080000", {1, 0, 0}},
+    {"4097*F0070000000000", {1, 0, 0}},
+    /* a head that promises 2,048 where 1,022 fit: a missing or wrong one comes before the first that doesn't */
+    {"F0070000080004 2048*0A0100 1024*" BORROW " F0080000080000", {32, 1, 3074}},
+    {"F0070000080004 2048*0A0100 1024*" BORROW " F0080000080000 00", {3, 1, 3074}},
+    {"F0070000080004 2048*0A0100 1024*" BORROW " F0080000080000 1021*0A0100 010004", {4, 1, 4095}},
+    {"F0070000080004 2048*0A0100 1024*" BORROW " F0080000080000 1022*0A0100", {1, 0, 0}},
+    /* more than 65,536 packed bytes are no fault */
+    {"F0070002000000 0A0100 00 4096*00000000000000000000000000000000", {3, 0, 2}},
+    {"F1070000000000 4096*00000000000000000000000000000000", {2, 0, 0}},
+};
+
 /* Factors, document 02's W14: a wanted value, one factor, the number returned and the other factor. */
 #define LEAST INT32_MIN
 #define MOST INT32_MAX
@@ -586,6 +770,98 @@ static void try_long_pages(const struct long_pages *p)
         }
 }
 
+/* As `send`, of a packed form. */
+static size_t send_packed(const char *text)
+{
+    memset(sent, 0xEE, sizeof sent);
+    size_t length = assemble_packed(text, sent);
+    memcpy(image, sent, sizeof image);
+    return length;
+}
+
+/* Both ways, with outputs exactly as long as the result, longer and shorter: 5 goes by the result, not by what is given. */
+static void try_kept(const char *packed, const char *whole)
+{
+    static unsigned char to[LONGEST];
+    struct answer shorter = {5, 0, 0};
+    size_t length = send(whole), bytes = assemble_packed(packed, to);
+    struct answer want = {0, bytes, 0};
+    const size_t enough[] = {bytes, bytes + 1, length, length + MATCHDESK_CELL};
+    for (size_t i = 0; i < sizeof enough / sizeof *enough; i++)
+        try_output("pack", matchdesk_pack, packed, length, enough[i], want, to, bytes);
+    if (bytes > 0) {
+        try_output("pack", matchdesk_pack, packed, length, bytes - 1, shorter, to, 0);
+        try_output("pack", matchdesk_pack, packed, length, 0, shorter, to, 0);
+    }
+
+    length = assemble(whole, to), bytes = send_packed(packed);
+    struct answer back = {0, length, 0};
+    const size_t room[] = {length, length + 1, length + MATCHDESK_CELL, MATCHDESK_MAX_IMAGE};
+    for (size_t i = 0; i < sizeof room / sizeof *room; i++)
+        try_output("unpack", matchdesk_unpack, packed, bytes, room[i], back, to, length);
+    if (length > 0) {
+        try_output("unpack", matchdesk_unpack, packed, bytes, length - 1, shorter, to, 0);
+        try_output("unpack", matchdesk_unpack, packed, bytes, bytes, shorter, to, 0);
+        try_output("unpack", matchdesk_unpack, packed, bytes, 0, shorter, to, 0);
+    }
+}
+
+/* The first bytes of what was sent, whatever is lent: 5 comes last. */
+static void try_unread(const char *text, size_t bytes, struct answer want)
+{
+    try_output("unpack", matchdesk_unpack, text, bytes, 0, want, expected, 0);
+    try_output("unpack", matchdesk_unpack, text, bytes, MATCHDESK_MAX_IMAGE, want, expected, 0);
+}
+
+/* A packed form of one head, or of a head and one cell: 32 where the last cell is cut off, or missing behind its head. */
+static void try_cut(const char *text, size_t cell)
+{
+    struct answer ends = {32, 0, cell};
+    size_t whole = send_packed(text);
+    for (size_t bytes = cell == 0 ? 1 : HEAD_BYTES; bytes < whole; bytes++)
+        try_unread(text, bytes, ends);
+}
+
+/* A wrong cell, and what it is when it is whole. */
+static void try_wrong(const char *head, const char *word, struct answer want)
+{
+    char text[64];
+    snprintf(text, sizeof text, "%s%s", head, word);
+    try_cut(text, want.second);
+    try_unread(text, send_packed(text), want);
+}
+
+/* A good cell: as it is, and with zeros for all that it keeps but its first byte; cut off; and with a byte too many. */
+static void try_cell(const char *head, const char *word)
+{
+    char text[64];
+    struct answer left_over = {32, 1, 2};
+    snprintf(text, sizeof text, "%s%.2s%.*s", head, word, (int)strlen(word) - 2, BORROW);
+    try_kept(text, text);
+    snprintf(text, sizeof text, "%s%s", head, word);
+    try_kept(text, text);
+    try_cut(text, 1);
+    snprintf(text, sizeof text, "%s%s00", head, word);
+    try_unread(text, send_packed(text), left_over);
+}
+
+/* What `matchdesk_pack` writes, `matchdesk_unpack` makes the image again. */
+static void try_back(const char *text)
+{
+    static unsigned char to[LONGEST];
+    size_t length = send(text);
+    struct answer got = {0, UNSET, UNSET}, want = {0, length, 0};
+    got.number = matchdesk_pack(image, length, to, length, &got.first, &got.second);
+    size_t bytes = got.number == 0 && got.first <= length ? got.first : 0;
+    struct answer packed = {0, bytes, 0};
+    compare("pack", text, packed, got);
+    memcpy(expected, sent, length);
+    memset(sent, 0xEE, sizeof sent);
+    memcpy(sent, to, bytes);
+    memcpy(image, sent, sizeof image);
+    try_output("unpack", matchdesk_unpack, text, bytes, length, want, expected, length);
+}
+
 /* What is lent is marked in two ways, and stands between two numbers that stay. */
 static void try_factor(const char *function, factor_of *call, const struct factored *f)
 {
@@ -617,6 +893,14 @@ int main(void)
             try_output("pages", matchdesk_pages, c->image, length, 0, c->site_check, expected, 0);
             try_output("pages", matchdesk_pages, c->image, length, 4096, c->site_check, expected, 0);
         }
+        if (c->image_check.number != 0) {
+            /* here too 5 comes behind the check */
+            size_t length = send(c->image);
+            try_output("pack", matchdesk_pack, c->image, length, 0, c->image_check, expected, 0);
+            try_output("pack", matchdesk_pack, c->image, length, length, c->image_check, expected, 0);
+        } else {
+            try_back(c->image);
+        }
     }
     for (size_t i = 0; i < sizeof rewritten / sizeof *rewritten; i++) {
         const struct rewritten *r = &rewritten[i];
@@ -642,6 +926,21 @@ int main(void)
     }
     for (size_t i = 0; i < sizeof long_pages / sizeof *long_pages; i++)
         try_long_pages(&long_pages[i]);
+    struct answer head_wrong = {2, 0, 0}, operand_wrong = {4, 0, 1};
+    for (size_t i = 0; i < sizeof kept / sizeof *kept; i++)
+        try_kept(kept[i].packed, kept[i].image != NULL ? kept[i].image : kept[i].packed);
+    for (size_t i = 0; i < sizeof commands / sizeof *commands; i++)
+        try_cell(ONE_INSTRUCTION, commands[i]);
+    for (size_t i = 0; i < sizeof events / sizeof *events; i++)
+        try_cell(ONE_EVENT, events[i]);
+    for (size_t i = 0; i < sizeof wrong_heads / sizeof *wrong_heads; i++)
+        try_wrong("", wrong_heads[i], head_wrong);
+    for (size_t i = 0; i < sizeof wrong_instructions / sizeof *wrong_instructions; i++)
+        try_wrong(ONE_INSTRUCTION, wrong_instructions[i], operand_wrong);
+    for (size_t i = 0; i < sizeof wrong_events / sizeof *wrong_events; i++)
+        try_wrong(ONE_EVENT, wrong_events[i], operand_wrong);
+    for (size_t i = 0; i < sizeof unread / sizeof *unread; i++)
+        try_unread(unread[i].packed, send_packed(unread[i].packed), unread[i].unpack);
     for (size_t i = 0; i < sizeof factored_fx / sizeof *factored_fx; i++)
         try_factor("factor_fx", matchdesk_factor_fx, &factored_fx[i]);
     for (size_t i = 0; i < sizeof factored_i32 / sizeof *factored_i32; i++)

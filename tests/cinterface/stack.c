@@ -10,8 +10,8 @@
 #define PAINT 0xA5
 
 static unsigned char stack[1 << 20] __attribute__((aligned(4096)));
-static unsigned char image[LONGEST], out[MATCHDESK_MAX_PAGES];
-static size_t length, number, first, second;
+static unsigned char image[LONGEST], packed[LONGEST], out[MATCHDESK_MAX_PAGES];
+static size_t length, packed_length, number, first, second;
 static int32_t wanted, factor, other;
 static ucontext_t host, guest;
 
@@ -22,21 +22,25 @@ static void crystalfold(void) { number = matchdesk_crystalfold(image, length, ou
 static void rewrite(void) { number = matchdesk_rewrite(image, length, out, sizeof out, &first, &second); }
 static void rewrite_fuller(void) { number = matchdesk_rewrite_fuller(image, length, out, sizeof out, &first, &second); }
 static void pages(void) { number = matchdesk_pages(image, length, out, sizeof out, &first, &second); }
+static void pack(void) { number = matchdesk_pack(image, length, out, sizeof out, &first, &second); }
+static void unpack(void) { number = matchdesk_unpack(packed, packed_length, out, sizeof out, &first, &second); }
 static void factor_fx(void) { number = matchdesk_factor_fx(wanted, factor, &other); }
 static void factor_i32(void) { number = matchdesk_factor_i32(wanted, factor, &other); }
 
 struct function {
     const char *name;
     void (*call)(void);
+    /* the number for the second text, one byte; the others are good */
+    size_t refusal;
 };
 
 static const struct function functions[] = {
-    {"image_check", image_check}, {"site_check", site_check}, {"cleanup", cleanup}, {"crystalfold", crystalfold},
-    {"rewrite", rewrite}, {"rewrite_fuller", rewrite_fuller}, {"pages", pages},
+    {"image_check", image_check, 1}, {"site_check", site_check, 1}, {"cleanup", cleanup, 1}, {"crystalfold", crystalfold, 1},
+    {"rewrite", rewrite, 1}, {"rewrite_fuller", rewrite_fuller, 1}, {"pages", pages, 1}, {"pack", pack, 1}, {"unpack", unpack, 32},
 };
 
 /* These take no image. They are called on every two of the numbers, whether a factor is found or not. */
-static const struct function factors[] = {{"factor_fx", factor_fx}, {"factor_i32", factor_i32}};
+static const struct function factors[] = {{"factor_fx", factor_fx, 0}, {"factor_i32", factor_i32, 0}};
 
 static const int32_t numbers[] = {0, 1, -1, 2, 3, 1000, -1999, 2000, 1073741824, 1431655765, INT32_MAX, INT32_MIN};
 
@@ -53,6 +57,16 @@ static void many_sites(void)
         event[0] = i % 2 ? 0 : 1;
         memcpy(event + (i % 2 ? 1 : 6), site, 5);
     }
+}
+
+/* What is unpacked: the packed form of the image, and one byte where that is none. */
+static void pack_image(void)
+{
+    memcpy(packed, image, sizeof packed);
+    packed_length = length;
+    size_t bytes;
+    if (length % MATCHDESK_CELL == 0 && matchdesk_pack(image, length, packed, sizeof packed, &bytes, &second) == 0)
+        packed_length = bytes;
 }
 
 static size_t used(void (*call)(void))
@@ -96,8 +110,9 @@ int main(void)
                 length = assemble(texts[i], image);
             else
                 many_sites();
+            pack_image();
             size_t bytes = used(functions[f].call);
-            if (number != (i == 1)) {
+            if (number != (i == 1 ? functions[f].refusal : 0)) {
                 printf("stack: %s answers %zu %zu %zu on image %zu\n", functions[f].name, number, first, second, i);
                 return 1;
             }
