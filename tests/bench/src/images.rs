@@ -34,7 +34,7 @@ pub fn rows() -> Vec<(&'static str, Vec<u8>)> {
 }
 
 /// Functions until the next one, given the number of cells left, doesn't fit.
-fn fill(mut function: impl FnMut(usize) -> (Vec<Cell>, Vec<Cell>)) -> Vec<u8> {
+pub fn fill(mut function: impl FnMut(usize) -> (Vec<Cell>, Vec<Cell>)) -> Vec<u8> {
     let mut image = Vec::new();
     let mut name = 0;
     loop {

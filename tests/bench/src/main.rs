@@ -1,8 +1,11 @@
 //! Times the original's `run_default_opt_passes` and, with the feature `library`,
-//! the proved rewrites and pages on the same images, in one process; and the proved factors.
+//! the proved rewrites and pages on the same images, in one process; the proved packed form beside
+//! the image check; and the proved factors.
 
 mod factors;
 mod images;
+#[cfg(feature = "library")]
+mod packed;
 #[cfg(feature = "library")]
 mod search;
 
@@ -11,39 +14,56 @@ use differential::cells::{CELL, MAX_IMAGE};
 use differential::legacy_lowering::IrFunction;
 use differential::{codec, original};
 use std::hint::black_box;
+use std::process::ExitCode;
 use std::time::{Duration, Instant};
 
 /// How long one figure is measured, unless `--milliseconds` says otherwise.
 const TIME: Duration = Duration::from_millis(400);
 
-const USAGE: &str = "usage: [--milliseconds N], or with the library: --search SEED SECONDS";
+const USAGE: &str =
+    "usage: [--milliseconds N], or with the library: --packed [--milliseconds N], --search SEED SECONDS";
 
 fn wrong_use() -> ! {
     eprintln!("{USAGE}");
     std::process::exit(2)
 }
 
-fn main() {
-    let time = match std::env::args().skip(1).collect::<Vec<_>>().as_slice() {
-        [] => TIME,
-        [word] if word == "--help" => {
+fn main() -> ExitCode {
+    let arguments: Vec<String> = std::env::args().skip(1).collect();
+    let words: Vec<&str> = arguments.iter().map(String::as_str).collect();
+    let hold = match words.as_slice() {
+        ["--help"] => {
             println!("{USAGE}");
-            return;
+            true
         }
         #[cfg(feature = "library")]
-        [word, seed, seconds] if word == "--search" => {
+        ["--search", seed, seconds] => {
             match (seed.parse(), seconds.parse()) {
                 (Ok(seed), Ok(seconds)) => search::run(seed, Duration::from_secs(seconds)),
                 _ => wrong_use(),
             }
-            return;
+            true
         }
-        [word, value] if word == "--milliseconds" && value.parse::<u64>().is_ok() => {
-            Duration::from_millis(value.parse().unwrap())
-        }
-        _ => wrong_use(),
+        #[cfg(feature = "library")]
+        ["--packed", rest @ ..] => packed::rows(time(rest)),
+        words => all(time(words)),
     };
+    ExitCode::from(!hold as u8)
+}
 
+fn time(words: &[&str]) -> Duration {
+    match words {
+        [] => TIME,
+        ["--milliseconds", value] => match value.parse() {
+            Ok(value) => Duration::from_millis(value),
+            Err(_) => wrong_use(),
+        },
+        _ => wrong_use(),
+    }
+}
+
+/// All tables, and whether the bound on one of them holds.
+fn all(time: Duration) -> bool {
     println!("ns for one image, the fastest of many rounds; outputs are lent once and not cleared");
     let image = vec![0x5A; MAX_IMAGE];
     let mut out = output(MAX_IMAGE);
@@ -76,7 +96,12 @@ fn main() {
         row(time, name, &image);
     }
     println!("ratio: our time divided by the original's, without and with decoding and encoding; `fuller` is the time of the fuller rewrite, `pages` that of the pages");
+    #[cfg(feature = "library")]
+    let hold = packed::rows(time);
+    #[cfg(not(feature = "library"))]
+    let hold = true;
     factors::rows(time);
+    hold
 }
 
 /// Image and output shouldn't start at the same place of a page: writes then look to the

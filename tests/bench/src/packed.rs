@@ -1,0 +1,199 @@
+//! Times the packed form (document 02, W8): `pack` and `unpack` beside the image check of the
+//! same image.
+
+use crate::{images, output, APART};
+use differential::cells::{self, EVENT_END, HEAD_END, MAX_EVENTS, MAX_INSTRS};
+use differential::generate::{self, computed, event, filled, load_i32, ret};
+use differential::legacy_lowering::byte;
+use differential::random::Random;
+use differential::{model, table};
+use std::hint::black_box;
+use std::time::{Duration, Instant};
+
+/// How many times as long as the image check each of the two may take.
+const MOST: f64 = 1.5;
+
+/// How many cells a round has at least: a smaller image is taken so many times.
+const CELLS: usize = 4096;
+
+const LAST_COMMAND: u8 = byte::TupleGet;
+
+/// Input, output, their lengths, and the references to the two numbers.
+type Write =
+    unsafe extern "C" fn(*const u8, usize, *mut u8, usize, *mut usize, *mut usize) -> usize;
+
+extern "C" {
+    fn matchdesk_image_check(
+        image: *const u8,
+        image_length: usize,
+        position: *mut usize,
+        detail: *mut usize,
+    ) -> usize;
+    fn matchdesk_pack(
+        image: *const u8,
+        image_length: usize,
+        out: *mut u8,
+        out_length: usize,
+        first: *mut usize,
+        second: *mut usize,
+    ) -> usize;
+    fn matchdesk_unpack(
+        packed: *const u8,
+        packed_length: usize,
+        out: *mut u8,
+        out_length: usize,
+        first: *mut usize,
+        second: *mut usize,
+    ) -> usize;
+}
+
+/// The rows, and whether each of the two takes at most `MOST` times as long as the image check in
+/// every one.
+pub fn rows(time: Duration) -> bool {
+    println!("ns for one image, the fastest of many rounds; the three are called by turns");
+    println!(
+        "{:24} {:>6} {:>12} {:>12} {:>12} {:>9} {:>9}",
+        "image", "cells", "image check", "pack", "unpack", "pack", "unpack"
+    );
+    let mut images = images::rows();
+    images.push(("every command", every_command()));
+    images.push(("each command once", each_command_once()));
+    images.push(("printed example", printed_example()));
+    let mut largest = [("", 0.0), ("", 0.0)];
+    for (name, image) in &images {
+        let ratios = row(time, name, image);
+        for (largest, ratio) in largest.iter_mut().zip(ratios) {
+            if ratio > largest.1 {
+                *largest = (*name, ratio);
+            }
+        }
+    }
+    println!("the last two columns: the time divided by the image check's");
+    let verdict = |(function, (name, ratio)): (&str, (&str, f64))| {
+        let holds = ratio <= MOST;
+        let judged = if holds { "as it must be" } else { "which it must not be" };
+        let side = if holds { "at most" } else { "above" };
+        println!("{function}: the largest ratio is {ratio:.2} ({name}), {side} {MOST}, {judged}");
+        holds
+    };
+    let verdicts = ["pack", "unpack"].into_iter().zip(largest).map(verdict);
+    // Both are said, whether the first holds or not.
+    verdicts.fold(true, |all, holds| all & holds)
+}
+
+/// LoadI32 r1 5, AddI32 r2 r1 r1, Ret r2 in function 7: document 01's example.
+fn printed_example() -> Vec<u8> {
+    generate::one_function(&[load_i32(1, 5), computed(byte::AddI32, 2, 1, 1), ret(Some(2))], &[])
+}
+
+fn each_command_once() -> Vec<u8> {
+    let cells: Vec<_> = (1..=LAST_COMMAND).map(|command| filled(command, true, 513)).collect();
+    generate::one_function(&cells, &[])
+}
+
+/// Commands at random, each as often as the others, and events of both kinds, with and without what
+/// may be absent. The sites are wrong, which neither `pack` nor `unpack` looks at.
+fn every_command() -> Vec<u8> {
+    let mut random = Random::new(8);
+    images::fill(|left| {
+        let events = (left / 3).min(MAX_EVENTS);
+        let instrs = (0..(left - events).min(MAX_INSTRS)).map(|_| {
+            let command = random.range(1, LAST_COMMAND.into()) as u8;
+            filled(command, random.chance(50), random.below(cells::REGISTERS) as u16)
+        });
+        let instrs = instrs.collect();
+        let events = (0..events as u32).map(|site| {
+            let kind = random.below(2) as u8;
+            event(kind, random.chance(50).then_some(site), random.chance(50).then_some(site))
+        });
+        (instrs, events.collect())
+    })
+}
+
+/// Cell by cell the bytes that the table of commands defines.
+fn packed(image: &[u8]) -> Vec<u8> {
+    let mut packed = Vec::new();
+    for function in cells::functions(image) {
+        let head = cells::head(function.name, function.instrs.len(), function.events.len());
+        packed.extend_from_slice(&head[..HEAD_END]);
+        for cell in function.instrs {
+            packed.extend_from_slice(&cell[..table::layout(cell[0]).unwrap().end]);
+        }
+        for cell in function.events {
+            packed.extend_from_slice(&cell[..EVENT_END]);
+        }
+    }
+    packed
+}
+
+fn written(function: Write, input: &[u8], out: &mut [u8]) -> usize {
+    let (mut first, mut second) = (0, 0);
+    let number = unsafe {
+        function(input.as_ptr(), input.len(), out.as_mut_ptr(), out.len(), &mut first, &mut second)
+    };
+    assert_eq!((number, second), (0, 0));
+    first
+}
+
+/// The ratios of `pack` and of `unpack`.
+fn row(time: Duration, name: &str, image: &[u8]) -> [f64; 2] {
+    assert_eq!(model::image_check(image), Ok(()), "{name}");
+    let packed = packed(image);
+    // Each has an output of its own, as long as the result.
+    let mut to_pack = output(packed.len());
+    let to_pack = &mut to_pack[APART..];
+    let mut to_unpack = output(image.len());
+    let to_unpack = &mut to_unpack[APART..];
+    assert_eq!(written(matchdesk_pack, image, to_pack), packed.len(), "{name}");
+    assert_eq!(to_pack, packed, "{name}");
+    assert_eq!(written(matchdesk_unpack, &packed, to_unpack), image.len(), "{name}");
+    assert_eq!(to_unpack, image, "{name}");
+
+    let cells = image.len() / cells::CELL;
+    let times = CELLS.div_ceil(cells);
+    let mut check = || {
+        let image = black_box(image);
+        let (mut position, mut detail) = (0, 0);
+        let number = unsafe {
+            matchdesk_image_check(image.as_ptr(), image.len(), &mut position, &mut detail)
+        };
+        assert_eq!((number, position, detail), (0, 0, 0));
+    };
+    let mut pack = || {
+        written(matchdesk_pack, black_box(image), to_pack);
+        black_box(&mut *to_pack);
+    };
+    let mut unpack = || {
+        written(matchdesk_unpack, black_box(&packed), to_unpack);
+        black_box(&mut *to_unpack);
+    };
+    let [check, pack, unpack] = by_turns(time, times, [&mut check, &mut pack, &mut unpack]);
+    let ratios = [pack / check, unpack / check];
+    println!(
+        "{name:24} {cells:>6} {check:>12.0} {pack:>12.0} {unpack:>12.0} {:>9.2} {:>9.2}",
+        ratios[0], ratios[1]
+    );
+    ratios
+}
+
+/// The times of one call of each in the fastest round, in ns. A round is so many calls of one.
+fn by_turns<const N: usize>(
+    time: Duration,
+    times: usize,
+    mut calls: [&mut dyn FnMut(); N],
+) -> [f64; N] {
+    let mut fastest = [u128::MAX; N];
+    let mut rounds = 0;
+    let deadline = Instant::now() + time * N as u32;
+    while rounds < 10 || Instant::now() < deadline {
+        for (call, fastest) in calls.iter_mut().zip(&mut fastest) {
+            let start = Instant::now();
+            for _ in 0..times {
+                call();
+            }
+            *fastest = start.elapsed().as_nanos().min(*fastest);
+        }
+        rounds += 1;
+    }
+    fastest.map(|fastest| fastest as f64 / times as f64)
+}
