@@ -73,7 +73,7 @@ pub fn rows(time: Duration) -> bool {
         let holds = ratio <= MOST;
         let judged = if holds { "as it must be" } else { "which it must not be" };
         let side = if holds { "at most" } else { "above" };
-        println!("{function}: the largest ratio is {ratio:.2} ({name}), {side} {MOST}, {judged}");
+        println!("{function}: the largest ratio is {ratio:.3} ({name}), {side} {MOST}, {judged}");
         holds
     };
     let verdicts = ["pack", "unpack"].into_iter().zip(largest).map(verdict);
