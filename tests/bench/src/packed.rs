@@ -3,7 +3,7 @@
 
 use crate::{images, output, APART};
 use differential::cells::{self, EVENT_END, HEAD_END, MAX_EVENTS, MAX_INSTRS};
-use differential::generate::{self, computed, event, filled, load_i32, ret};
+use differential::generate::{self, computed, event, filled, load_i32, ret, store_var};
 use differential::legacy_lowering::byte;
 use differential::random::Random;
 use differential::{model, table};
@@ -56,6 +56,8 @@ pub fn rows(time: Duration) -> bool {
         "image", "cells", "image check", "pack", "unpack", "pack", "unpack"
     );
     let mut images = images::rows();
+    images.push(("StoreVars", store_vars()));
+    images.push(("events", events()));
     images.push(("every command", every_command()));
     images.push(("each command once", each_command_once()));
     images.push(("printed example", printed_example()));
@@ -91,8 +93,25 @@ fn each_command_once() -> Vec<u8> {
     generate::one_function(&cells, &[])
 }
 
+/// The longest cells, with one spare byte each. The sites of these and the next two are wrong,
+/// which neither `pack` nor `unpack` looks at.
+fn store_vars() -> Vec<u8> {
+    images::fill(|left| {
+        let sites = 0..left.min(MAX_INSTRS) as u32;
+        (sites.map(|site| store_var(1, Some(site), Some(site))).collect(), Vec::new())
+    })
+}
+
+fn events() -> Vec<u8> {
+    images::fill(|left| {
+        let sites = 0..left.min(MAX_EVENTS) as u32;
+        let events = sites.map(|site| event((site % 2) as u8, Some(site), Some(site)));
+        (Vec::new(), events.collect())
+    })
+}
+
 /// Commands at random, each as often as the others, and events of both kinds, with and without what
-/// may be absent. The sites are wrong, which neither `pack` nor `unpack` looks at.
+/// may be absent.
 fn every_command() -> Vec<u8> {
     let mut random = Random::new(8);
     images::fill(|left| {
