@@ -1,26 +1,25 @@
 -- The cells of a good image are right one after another, and right cells are a good image's.
-use mathlib.Core.Path.{_≡_, refl, ap, ap₂, sym, _∙_}
+use mathlib.Core.Path.{_≡_, refl, ap, sym, _∙_}
 use mathlib.Core.List.{List, [], _∷_, _++_, append-assoc, append-nil}
-use Prim.Native.Nat.{ℕ, zero, suc, _+_, _*_, _≤_, _<_}
+use Prim.Native.Nat.{ℕ, zero, suc, _+_, _*_, _≤_}
 use native.Mathlib.Nat.{le-refl, le-of-suc-le-suc, not-suc-le-zero}
 use native.Mathlib.Omega.{arith}
 use borrow.Author.Tests.{le-leb}
 use lib.Dec.{leb}
-use lib.ListN.{length, take, drop, replicate, length-drop, take-append-drop}
+use lib.ListN.{length, take, drop, replicate, length-drop}
 use lib.Seq.{length-take-le, drop-drop}
 use Rattle.cells.specs.Cells.{Cell, Full, cells, flat}
 use Rattle.cells.specs.Check.{codeCount, eventCount, headCheck, maxImage}
-use Rattle.cells.specs.Functions.{Function, functionAt, behind as past, functions, cellsOf, cellsOfAll, there, Counted}
+use Rattle.cells.specs.Functions.{Function, functionAt, behind as past, functions, cellsOf, cellsOfAll, there}
 use Rattle.cells.specs.Lists.{All}
 use Rattle.cells.specs.WellFormed.{WellFormed, InstructionGood, EventGood}
 use Rattle.cells.specs.declared.refusal.Checked.the-variants.{Good}
-use Rattle.cells.proofs.Cells.{full-cells, flat-cells, length-flat}
 use Rattle.cells.proofs.Checks.{head-fits, head-room}
 use Rattle.cells.proofs.Functions.{functions-nil, functions-cons, cells-of-functions}
 use Rattle.cells.proofs.Lists.{all-append, all-both, all-each, all-parts}
 use Rattle.image.specs.Image.{GoodImage}
 use Rattle.image.proofs.Again.{image-formed, formed-image}
-use Rattle.packed.specs.Form.{Role, Head, Code, Event, promise, roleOf, dueBehind}
+use Rattle.packed.specs.Form.{Role, Code, Event}
 use Rattle.packed.proofs.Walk.{Right, Fine}
 
 -- ---- a run of cells of one role

@@ -2,6 +2,7 @@ pub mod Widths
 pub mod Walk
 pub mod Images
 pub mod Parts
+pub mod FirstBytes
 pub mod Undo
 pub mod Promises
 pub mod Puts

@@ -8,7 +8,7 @@ use native.Mathlib.Omega.{arith}
 use denote.Enum.Declared.{tagOf}
 use types.Run.{OneOf, miss}
 use lib.ListN.{length, getD, take, drop, length-append, length-take, length-drop, drop-of-length-le}
-use lib.Seq.{take-all, take-append-add, take-append-le, length-take-le, drop-cons, drop-drop, drop-at}
+use lib.Seq.{take-all, take-append-add, length-take-le, drop-cons, drop-drop}
 use Rattle.cells.specs.Cells.{Cell, cells, flat}
 use Rattle.cells.specs.declared.refusal.Refusal.the-variants.{Length}
 use Rattle.cells.proofs.Cells.{length-cells, length-flat, part-cell}
@@ -20,7 +20,7 @@ use Rattle.packed.specs.declared.Packing.{Packing}
 use Rattle.packed.proofs.Packing.{the-type}
 use Rattle.packed.specs.declared.Packing.the-variants.{Bytes, Refused, Ends}
 use Rattle.packed.proofs.Widths.{size-fits, keep-length, next-size, next-rest, next-back, due-kept, right-zeros, cell-length}
-use Rattle.packed.proofs.Walk.{Fine, Read, cell-read, read-is, then-nil, then-then, later, step-done, step-full, step-more}
+use Rattle.packed.proofs.Walk.{Fine, cell-read, read-is, then-nil, then-then, later, step-done, step-full, step-more}
 use Rattle.packed.proofs.Puts.{put-start, put-length, restored-cell, restored-length, rest-is}
 use Rattle.packed.proofs.Images.{fine-full}
 

@@ -1,9 +1,8 @@
 -- The claims of `specs/Claim.antt`, and the contracts from what the operations answer and write.
 use mathlib.Core.Path.{_≡_, refl, ap, sym, _∙_}
-use mathlib.Core.Logic.{_↔_}
 use mathlib.Core.List.{List, [], _∷_, _++_}
-use mathlib.Core.Bool.{Bool, true, false, true≢false, cond}
-use Prim.Native.Nat.{ℕ, _+_, _*_, _/_, _%_, _≤_, _<_}
+use mathlib.Core.Bool.{true, false, true≢false}
+use Prim.Native.Nat.{ℕ, _+_, _*_, _≤_, _<_}
 use native.Mathlib.Omega.{arith}
 use borrow.Author.Tests.{leb-true, le-leb, lt-leb}
 use lib.Dec.{leb}
@@ -20,7 +19,7 @@ use Rattle.image.specs.Image.{imageAnswer, GoodImage}
 use Rattle.image.proofs.Good.{image-good}
 use Rattle.packed.specs.Form.{Role, roleOf, dueBehind, size, keep, packFrom, packed}
 use Rattle.packed.specs.Reading.{Result, bytes, refused, ends, ifGood, unpacked}
-use Rattle.packed.specs.Operations.{packResult, unpackResult, answerOf, outputOf, Done, PackedImage, PackDone, UnpackDone, isWritten, lengthWritten, replyOf}
+use Rattle.packed.specs.Operations.{packResult, unpackResult, answerOf, outputOf, Done, PackDone, UnpackDone, isWritten, lengthWritten}
 use Rattle.packed.specs.Steps.{counted, Room}
 use Rattle.packed.specs.Claim.{Wrote, wrote, Writes, UnpackUndoesPack, NeverAlike, PackUndoesUnpack, OneForm, UnpackedPasses, PackNeverLonger}
 use Rattle.packed.specs.declared.Packing.{Packing}

@@ -2,27 +2,26 @@
 -- reading back what was kept gives the cell; keeping of what was read gives the bytes; and the check sees the kept bytes alone.
 use mathlib.Core.Path.{_≡_, refl, ap, ap₂, sym, _∙_}
 use mathlib.Core.List.{List, [], _∷_, _++_, map}
-use mathlib.Core.Bool.{Bool, true, false, cond, _&&_}
+use mathlib.Core.Bool.{Bool, true, false, _&&_}
 use Prim.Native.Nat.{ℕ, zero, suc, _+_, _-_, _*_, _≤_, _<_}
 use native.Mathlib.Nat.{add-assoc, add-zero}
 use native.Mathlib.Omega.{arith}
 use borrow.Author.Tests.{lt-ltb, le-leb, lt-leb, ltb-true, ltb-false, eqb-true}
-use lib.Dec.{eqb, ltb, leb}
+use lib.Dec.{eqb, ltb, leb, leb→le}
 use lib.ListN.{length, getD, take, drop, replicate, length-append, length-drop, length-replicate, take-append-drop, drop-of-length-le, List·getD-eq-default, List·getD-append}
 use lib.Seq.{length-take-le, getD-take, take-at, drop-at, take-all}
 use Rattle.cells.specs.Answers.{unless}
 use Rattle.cells.specs.Bytes.{byte, half, word, zeros}
 use Rattle.cells.specs.Cells.{Cell}
-use Rattle.cells.specs.Check.{operandOk, operandsOk, rowOk, codeCount, eventCount, isHead, headCheck, instructionCheck, eventCheck, registers, present}
+use Rattle.cells.specs.Check.{operandOk, operandsOk, rowOk, codeCount, eventCount, headCheck, instructionCheck, eventCheck, registers, present}
 use Rattle.cells.specs.Table.{Row, row, rows, rowOf, total, widthOf, headRow, eventRow}
 use Rattle.cells.specs.declared.table.Kind.{Kind}
 use Rattle.cells.specs.declared.table.Kind.the-variants.{Reg, OptReg, Flag, Quad, Two, Four, Eight, Site}
 use Rattle.cells.specs.declared.table.Class.the-variants.{NoCommand}
-use Rattle.cells.specs.declared.refusal.Checked.{Checked}
-use Rattle.cells.specs.declared.refusal.Checked.the-variants.{Good, Refused}
-use Rattle.cells.specs.declared.refusal.Refusal.the-variants.{Head as BadHead, Operand}
+use Rattle.cells.specs.declared.refusal.Checked.the-variants.{Good}
+use Rattle.cells.specs.declared.refusal.Refusal.the-variants.{Operand}
 use Rattle.cells.proofs.Facts.{by-test, and-true}
-use Rattle.cells.proofs.Rows.{row-fits}
+use Rattle.cells.proofs.Every.{at-any}
 use Rattle.cells.proofs.Checks.{instruction-good, event-good, head-good}
 use Rattle.packed.specs.Form.{Role, Head, Code, Event, promise, roleOf, dueBehind, rowFor, rowSize, size, keep}
 use Rattle.packed.specs.Reading.{padded, nextCell, known, cellCheck}
@@ -56,17 +55,18 @@ pub size-some : (r : Role) (s : List ℕ) → 1 ≤ size r s
 unfolding rowSize
 size-some r s = omega arith
 
-size-within : (k : ℕ) → k < 84 → rowSize k ≤ 16
-unfolding rowSize
-size-within k h = row-fits k h
+-- no row fills its cell
+keeps-few : ℕ → Row → Bool
+keeps-few k r = leb (1 + total (r .operands)) 15
 
-pub row-size-fits : (k : ℕ) → rowSize k ≤ 16
-row-size-fits k =
-    by-test (ltb k 84) (λ y. size-within k (ltb-true _ _ y))
-    (λ n. let h : 84 ≤ k = ltb-false _ _ n in omega (arith, size-past k h))
+size-within : (k : ℕ) → k < 84 → rowSize k ≤ 15
+unfolding rows keeps-few rowSize
+size-within k h = leb→le (rowSize k) 15 (at-any (row NoCommand []) keeps-few rows tt k h)
 
-pub size-fits : (r : Role) (s : List ℕ) → size r s ≤ 16
-size-fits r s = row-size-fits (rowFor r s)
+pub size-fits : (r : Role) (s : List ℕ) → size r s ≤ 15
+size-fits r s =
+    by-test (ltb (rowFor r s) 84) (λ y. size-within (rowFor r s) (ltb-true _ _ y))
+    (λ n. omega (arith, size-past (rowFor r s) (ltb-false _ _ n)))
 
 pub head-size : (s : List ℕ) → size Head s ≡ 7
 unfolding rowSize rows

@@ -4,7 +4,7 @@ use mathlib.Core.Path.{_≡_, refl}
 use mathlib.Core.List.{List, [], _∷_, _++_, map}
 use Prim.Native.Nat.{ℕ, _+_, _-_}
 use lib.ListN.{length, take, replicate}
-use Rattle.cells.specs.Assembler.{cell, Head, Label, Jmp, JmpIf, Ret, RetNothing, LoadBool, LoadF64, LoadFx, LoadI32, LoadQ, LoadU32, AddI32, QTruthNot, Assert, Call, CallNothing, site, noSite, StoreVar, StoreVarSited, MakeRecord, Borrow, Write, function}
+use Rattle.cells.specs.Assembler.{cell, Head, Label, Jmp, JmpIf, Ret, RetNothing, LoadBool, LoadF64, LoadI32, LoadQ, LoadU32, AddI32, QTruthNot, Assert, Call, CallNothing, site, noSite, StoreVar, StoreVarSited, MakeRecord, Borrow, Write, function}
 use Rattle.cells.specs.Bytes.{bytes}
 use Rattle.cells.specs.Cells.{Cell, flat, over}
 use Rattle.cells.specs.Check.{instructionCheck, eventCheck, headCheck}

@@ -1,7 +1,7 @@
 -- Promise: what a buyer reads of the two operations together (document 02, W8), by their own definitions, whatever is lent: `answerOf (packResult s)
 -- (length lent)` is what `pack` answers for the image s and the lent output, and `outputOf (packResult s) lent` is what the output then holds; and so
 -- for `unpack`.
-use Prim.Native.Nat.{ℕ, _≤_}
+use Prim.Native.Nat.{ℕ, _≤_, _<_}
 use mathlib.Core.Path.{_≡_}
 use mathlib.Core.List.{List, [], _∷_, _++_}
 use lib.ListN.{length, take}
@@ -59,6 +59,10 @@ PackNeverLonger = (s lent : List ℕ) (n : ℕ) → Wrote (packResult s) lent n 
 -- where a cell ends among the packed bytes is decided by its first byte and by what it is
 abbrev pub FirstByteDecides : Type 0
 FirstByteDecides = (r : Role) (s t : List ℕ) → byte s 0 ≡ byte t 0 → size r s ≡ size r t
+
+-- there is no limit on packed bytes but the image's: 4,096 cells keep at most 61,440, and one byte more is past them, whatever follows it
+abbrev pub FirstBytesDecide : Type 0
+FirstBytesDecide = (s : List ℕ) (n : ℕ) → 61440 < n → unpackResult (take n s) ≡ unpackResult s
 
 -- ---- the packed form, function by function: of each the head, the instructions and the events
 

@@ -1,10 +1,10 @@
 -- Inner: what the functions inside the two operations say.
-use Prim.Native.Nat.{ℕ, _+_, _-_}
+use Prim.Native.Nat.{ℕ, _+_}
 use mathlib.Core.Path.{_≡_}
 use mathlib.Core.List.{List, _++_, map}
 use mathlib.Core.Bool.{cond}
 use lib.Dec.{ltb}
-use lib.ListN.{length, take, drop, replicate}
+use lib.ListN.{length, take, replicate}
 use Rattle.cells.specs.Cells.{Cell, over}
 use Rattle.cells.specs.Table.{Row, rows, total}
 use Rattle.packed.specs.Form.{Role, promise, roleOf, dueBehind, size}

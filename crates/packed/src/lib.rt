@@ -6,7 +6,6 @@ mod restore;
 
 use cells::refusal::Checked;
 use cells::refusal::Refusal;
-ghost use mathlib.Core.Path.{_≡_};
 ghost use Rattle.packed.specs.Operations.{PackDone, UnpackDone};
 
 // The answer: so many bytes are written; or a refusal; or the packed bytes end inside a cell or before a promised one (32), with the function's

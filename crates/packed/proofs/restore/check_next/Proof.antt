@@ -1,5 +1,5 @@
 -- `packed::restore::check_next` meets its contract.
-use mathlib.Core.Path.{_≡_, ap, sym, _∙_}
+use mathlib.Core.Path.{ap, sym, _∙_}
 use mathlib.Core.List.{List}
 use denote.Ref.{now}
 use Rattle.packed.specs.Form.{Role, promise, roleOf}

@@ -1,5 +1,4 @@
 -- `packed::restore::put_exactly` meets its contract.
-use mathlib.Core.Path.{sym, _∙_}
 use denote.Ref.{now}
 use Rattle.packed.proofs.Puts.{exactly-put}
 use borrow.Author.Needs.{needs}
