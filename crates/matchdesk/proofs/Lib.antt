@@ -3,5 +3,8 @@ pub mod Kept
 pub mod Texts
 pub mod Replies
 pub mod Laid
+pub mod PackedTexts
+pub mod FirstBytes
+pub mod Longer
 pub mod Factors
 pub mod Answered

@@ -1,33 +1,24 @@
 -- What the rewrite's contract gives the program: the bytes that an accepted image is rewritten to, and what is said of each answer.
 use mathlib.Core.Path.{_≡_, refl, sym, _∙_, ap}
 use mathlib.Core.List.{List}
-use Prim.Native.Nat.{ℕ, _≤_, _<_}
+use Prim.Native.Nat.{ℕ, _≤_}
 use native.Mathlib.Omega.{arith}
-use borrow.Author.Tests.{lt-leb}
 use lib.ListN.{length}
 use Rattle.cells.specs.Cells.{over}
 use Rattle.cells.specs.Check.{maxImage}
 use Rattle.cells.specs.declared.refusal.Checked.{Checked}
 use Rattle.cells.specs.declared.refusal.Checked.the-variants.{Good, Refused as RefusedBy}
 use Rattle.cells.specs.declared.refusal.Refusal.{Refusal}
-use Rattle.cells.specs.declared.refusal.Refusal.the-variants.{Length}
 use Rattle.cells.proofs.Over.{over-take}
 use Rattle.crystalfold.specs.declared.rules.RuleSet.{RuleSet}
-use Rattle.crystalfold.specs.declared.rules.RuleSet.the-variants.{Default}
-use Rattle.image.specs.Image.{imageAnswer}
-use Rattle.image.specs.SiteCheck.{siteAnswer}
 use Rattle.passes.specs.Passes.{passBytes, passCount, passCheck, answerAs, outputAs, passAnswer, passOutput}
 use Rattle.passes.specs.Contracts.{RewriteDone}
 use Rattle.passes.specs.declared.OptReport.{OptReport}
-use Rattle.passes.specs.declared.Pass.{Pass}
 use Rattle.passes.specs.declared.Pass.the-variants.{Both}
 use Rattle.passes.specs.declared.Rewrite.{Rewrite}
 use Rattle.passes.specs.declared.Rewrite.the-variants.{Written, Refused}
-use Rattle.passes.proofs.Checked.{check-long}
-use Rattle.matchdesk.specs.Program.{written, programTexts}
+use Rattle.matchdesk.specs.Program.{written}
 use Rattle.matchdesk.specs.Contracts.{Fits}
-use Rattle.matchdesk.specs.declared.Job.{Job}
-use Rattle.matchdesk.specs.declared.Job.the-variants.{Rewrite as RewriteJob, Bytes, Check, Pages}
 
 written-only : (a : Checked) (m count n : ℕ) (report : OptReport) → answerAs a m count ≡ Written n report → (a ≡ Good) × (m ≡ n)
 written-only Good m count n report e = (refl, cc)
@@ -56,20 +47,3 @@ module _ (k : RuleSet) (image before after : List ℕ) where
   said f same (Refused x) w h =
       let e : passAnswer (Both k) image maxImage ≡ Refused x = rw (← h) (sym (w .done .answer)) in
       rw e (same x (passBytes (Both k) image) (written (Refused x) after))
-
--- ---- an input past the longest image: its bytes do not matter
-
-answer-long : (p : Pass) (image : List ℕ) → maxImage < length image → passAnswer p image maxImage ≡ Refused Length
-unfolding passAnswer
-answer-long p image h = rw (← check-long image maxImage h)
-
-site-long : (image : List ℕ) → maxImage < length image → siteAnswer image ≡ RefusedBy Length
-unfolding siteAnswer imageAnswer
-site-long image h = simp (lt-leb _ _ h)
-
-pub program-long : (job : Job) (s t : List ℕ) → maxImage < length s → maxImage < length t → programTexts job s ≡ programTexts job t
-unfolding programTexts
-program-long (RewriteJob rules) s t h k = rw (answer-long (Both rules) s h, answer-long (Both rules) t k)
-program-long Bytes s t h k = rw (answer-long (Both Default) s h, answer-long (Both Default) t k)
-program-long Check s t h k = rw (site-long s h, site-long t k)
-program-long Pages s t h k = rw (site-long s h, site-long t k)

@@ -1,4 +1,4 @@
--- Worked: runs of the program: an argument, an image, and what goes to standard output and to standard error; `none` where the argument is no word.
+-- Worked: runs of the program: an argument, an image or a packed form, and what goes to standard output and to standard error; `none` where the argument is no word.
 -- Then `factor`: the words of its products, words that are no numbers, and numbers.
 use mathlib.Core.Path.{_≡_, refl}
 use mathlib.Core.List.{List, [], _∷_, _++_, map}
@@ -28,9 +28,12 @@ use Rattle.passes.specs.Passes.{passAnswer, passBytes, passCheck, passCount}
 use Rattle.listing.specs.Decimal.{decimal}
 use Rattle.listing.specs.Places.{ascii}
 use Rattle.listing.specs.Text.{cellLine, rewritesLine, rewrittenText, refusedText, refusalText, goodText}
+use Rattle.packed.specs.Form.{rowSize, packed}
+use Rattle.packed.specs.Reading.{readCell, unpackFrom, unpacked}
+use Rattle.packed.specs.Operations.{packResult}
 use Rattle.pages.specs.Pages.{heading, cellLine as pageLine, pageLines, pagesText}
 use Rattle.numbers.specs.Numbers.{numberIn}
-use Rattle.matchdesk.specs.Program.{Texts, onOutput, onError, askedFor, productFor, programTexts, factorTexts, rewriteWord, fullerWord, bytesWord, checkWord, pagesWord}
+use Rattle.matchdesk.specs.Program.{Texts, onOutput, onError, askedFor, productFor, programTexts, factorTexts, rewriteWord, fullerWord, bytesWord, checkWord, pagesWord, packWord, unpackWord}
 use Rattle.matchdesk.specs.declared.Asked.{Asked}
 use Rattle.matchdesk.specs.declared.Asked.the-variants.{For, Unknown}
 use Rattle.matchdesk.specs.declared.product.Chosen.{Chosen}
@@ -39,16 +42,16 @@ use Rattle.matchdesk.specs.declared.product.Product.{Product}
 use Rattle.matchdesk.specs.declared.product.Product.the-variants.{Fx, I32}
 
 pub doneFor : Asked → List ℕ → Option Texts
-doneFor (For job) image = some (programTexts job image)
-doneFor Unknown image = none
+doneFor (For job) input = some (programTexts job input)
+doneFor Unknown input = none
 
 pub record ProgramCase : Type 0 where
   pub argument : List ℕ
-  pub image : List ℕ
+  pub input : List ℕ
   pub texts : Option Texts
 
 abbrev pub case : List ℕ → List ℕ → Option Texts → ProgramCase
-case argument image texts = record { argument = argument; image = image; texts = texts }
+case argument input texts = record { argument = argument; input = input; texts = texts }
 
 -- document 01's printed example, as sent and as rewritten
 example : List Cell
@@ -75,6 +78,36 @@ beyond = Head 7 1 0 ∷ LoadI32 1024 5 ∷ []
 -- StoreVar with the activation site 9, and its Borrow event, in function 65,535
 sited : List Cell
 sited = Head 65535 1 1 ∷ StoreVarSited (site 9) noSite ∷ Borrow (site 9) noSite ∷ []
+
+-- the packed forms of the example, and of the function with the site: an absent site keeps its zeros, and the spare bytes go
+examplePacked : List ℕ
+examplePacked =
+    0xF0 ∷ 7 ∷ 0 ∷ 3 ∷ 0 ∷ 0 ∷ 0
+    ∷ 0x2B ∷ 1 ∷ 0 ∷ 5 ∷ 0 ∷ 0 ∷ 0
+    ∷ 0x13 ∷ 2 ∷ 0 ∷ 1 ∷ 0 ∷ 1 ∷ 0
+    ∷ 0x0C ∷ 1 ∷ 2 ∷ 0
+    ∷ []
+
+sitedPacked : List ℕ
+sitedPacked =
+    0xF0 ∷ 0xFF ∷ 0xFF ∷ 1 ∷ 0 ∷ 1 ∷ 0
+    ∷ 0x4D ∷ 0 ∷ 0 ∷ 0 ∷ 0 ∷ 1 ∷ 9 ∷ 0 ∷ 0 ∷ 0 ∷ 0 ∷ 0 ∷ 0 ∷ 0 ∷ 0
+    ∷ 0 ∷ 1 ∷ 9 ∷ 0 ∷ 0 ∷ 0 ∷ 0 ∷ 0 ∷ 0 ∷ 0 ∷ 0 ∷ 0 ∷ 0 ∷ 0 ∷ 0
+    ∷ []
+
+-- the StoreVar without its event, which the site check refuses
+unpaired : List Cell
+unpaired = Head 7 1 0 ∷ StoreVarSited (site 9) noSite ∷ []
+
+unpairedPacked : List ℕ
+unpairedPacked =
+    0xF0 ∷ 7 ∷ 0 ∷ 1 ∷ 0 ∷ 0 ∷ 0
+    ∷ 0x4D ∷ 0 ∷ 0 ∷ 0 ∷ 0 ∷ 1 ∷ 9 ∷ 0 ∷ 0 ∷ 0 ∷ 0 ∷ 0 ∷ 0 ∷ 0 ∷ 0
+    ∷ []
+
+-- a head of function 7 that promises an instruction
+promising : List ℕ
+promising = 0xF0 ∷ 7 ∷ 0 ∷ 1 ∷ 0 ∷ 0 ∷ 0 ∷ []
 
 -- `good`; `refused`, a number, 0 and a detail, as `refused 1 0 0`; `rewrites 1`, `rewrites 0`
 good : List ℕ
@@ -146,16 +179,42 @@ cases =
     ∷ case pagesWord (0 ∷ []) (some (onOutput (refused 49 48)))
     ∷ case pagesWord (replicate 16 0) (some (onOutput (refused 50 48)))
     ∷ case pagesWord (flat beyond) (some (onOutput (refused 52 49)))
-    -- no word: none at all, `byte`, `checks`, `full`, `page`
+    -- the packed form and back: of the printed example, of a site with its event, without it (sites are not checked), of nothing
+    ∷ case packWord (flat example) (some (onOutput examplePacked))
+    ∷ case unpackWord examplePacked (some (onOutput (flat example)))
+    ∷ case packWord (flat sited) (some (onOutput sitedPacked))
+    ∷ case unpackWord sitedPacked (some (onOutput (flat sited)))
+    ∷ case packWord (flat unpaired) (some (onOutput unpairedPacked))
+    ∷ case unpackWord unpairedPacked (some (onOutput (flat unpaired)))
+    ∷ case packWord [] (some (onOutput []))
+    ∷ case unpackWord [] (some (onOutput []))
+    -- their refusals, on standard error: an image as of `bytes`
+    ∷ case packWord (0 ∷ []) (some (onError (refused 49 48)))
+    ∷ case packWord (replicate 16 0) (some (onError (refused 50 48)))
+    ∷ case packWord (flat beyond) (some (onError (refused 52 49)))
+    ∷ case packWord examplePacked (some (onError (refused 49 48)))
+    -- a packed form: a first byte F1; the command 52 with nothing behind it; the register 1,024; what is left behind a function
+    ∷ case unpackWord (0xF1 ∷ 7 ∷ 0 ∷ 1 ∷ 0 ∷ 0 ∷ 0 ∷ []) (some (onError (refused 50 48)))
+    ∷ case unpackWord (promising ++ 0x52 ∷ []) (some (onError (refused 51 49)))
+    ∷ case unpackWord (promising ++ 0x2B ∷ 0 ∷ 4 ∷ 5 ∷ 0 ∷ 0 ∷ 0 ∷ []) (some (onError (refused 52 49)))
+    ∷ case unpackWord (examplePacked ++ replicate 7 0) (some (onError (ascii "refused 2 1 4" ++ 10 ∷ [])))
+    -- an end before a promised cell, inside one, inside a head, and inside a head behind a function
+    ∷ case unpackWord promising (some (onError (ascii "refused 32 0 1" ++ 10 ∷ [])))
+    ∷ case unpackWord (promising ++ 0x2B ∷ 0 ∷ 4 ∷ 5 ∷ 0 ∷ 0 ∷ []) (some (onError (ascii "refused 32 0 1" ++ 10 ∷ [])))
+    ∷ case unpackWord (0xF0 ∷ []) (some (onError (ascii "refused 32 0 0" ++ 10 ∷ [])))
+    ∷ case unpackWord (examplePacked ++ 0 ∷ []) (some (onError (ascii "refused 32 1 4" ++ 10 ∷ [])))
+    -- no word: none at all, `byte`, `checks`, `full`, `page`, `packs`, `npack`
     ∷ case [] (flat example) none
     ∷ case (98 ∷ 121 ∷ 116 ∷ 101 ∷ []) (flat example) none
     ∷ case (checkWord ++ 115 ∷ []) (flat example) none
     ∷ case (102 ∷ 117 ∷ 108 ∷ 108 ∷ []) (flat example) none
     ∷ case (112 ∷ 97 ∷ 103 ∷ 101 ∷ []) (flat example) none
+    ∷ case (packWord ++ 115 ∷ []) (flat example) none
+    ∷ case (110 ∷ packWord) examplePacked none
     ∷ []
 
-pub worked : map (λ (c : ProgramCase). case (c .argument) (c .image) (doneFor (askedFor (c .argument)) (c .image))) cases ≡ cases
-unfolding doneFor example rewritten quads zeros apart beyond sited good refused count cases askedFor programTexts passAnswer passBytes passCheck passCount siteAnswer imageAnswer functions instructionCheck eventCheck headCheck rows siteOf eventSite siteBy repeatAnswer activationAnswer judgeBy cleanCode cleanCount cleanEvents cleanFunction foldCode foldsOf foldFunction defaultRules defaultTable fullerRules fullerTable note view loadCell quadOf classOf wrap addI32 decimal rewritesLine rewrittenText refusedText refusalText goodText floatOf bitsOf divF64 Ieee.eq Ieee.div Ieee.ofBits Ieee.toBits pagesText pageLines heading pageLine commandNames eventNames
+pub worked : map (λ (c : ProgramCase). case (c .argument) (c .input) (doneFor (askedFor (c .argument)) (c .input))) cases ≡ cases
+unfolding doneFor example rewritten quads zeros apart beyond sited examplePacked sitedPacked unpaired unpairedPacked promising good refused count cases askedFor programTexts passAnswer passBytes passCheck passCount siteAnswer imageAnswer functions instructionCheck eventCheck headCheck rows siteOf eventSite siteBy repeatAnswer activationAnswer judgeBy cleanCode cleanCount cleanEvents cleanFunction foldCode foldsOf foldFunction defaultRules defaultTable fullerRules fullerTable note view loadCell quadOf classOf wrap addI32 decimal rewritesLine rewrittenText refusedText refusalText goodText floatOf bitsOf divF64 Ieee.eq Ieee.div Ieee.ofBits Ieee.toBits pagesText pageLines heading pageLine commandNames eventNames packResult packed rowSize unpacked unpackFrom readCell
 worked = refl
 
 -- ---- the words of products

@@ -1,12 +1,15 @@
 -- Inner: what the program's functions say to each other: room in the buffers, and where the texts stand.
 use mathlib.Core.Path.{_≡_}
-use mathlib.Core.List.{List}
+use mathlib.Core.List.{List, []}
 use Prim.Native.Nat.{ℕ, _≤_}
 use lib.ListN.{length}
 use Rattle.cells.specs.Check.{maxImage}
 use Rattle.listing.specs.Contracts.{TextWritten}
+use Rattle.listing.specs.Text.{refusedText, refusalText}
 use Rattle.listing.specs.declared.Listed.{Listed}
 use Rattle.listing.specs.declared.Listed.the-variants.{Text, TooShort}
+use Rattle.packed.specs.declared.Packing.{Packing}
+use Rattle.packed.specs.declared.Packing.the-variants.{Bytes, Refused, Ends}
 use Rattle.passes.specs.Contracts.{lengthWritten}
 use Rattle.passes.specs.declared.Rewrite.{Rewrite}
 use Rattle.matchdesk.specs.Program.{Texts}
@@ -28,6 +31,12 @@ pub record Fits (reply : Rewrite) (work output : List ℕ) : Type 0 where
   pub within : lengthWritten reply ≤ length work
   pub most : lengthWritten reply ≤ maxImage
   pub room : 242382 ≤ length output
+
+-- what is said on standard error of an answer about a packed form
+abbrev pub faultText : Packing → List ℕ
+faultText (Bytes n) = []
+faultText (Refused x) = refusalText x
+faultText (Ends position detail) = refusedText 32 position detail
 
 -- the texts stand over the start of the two buffers, each with its end
 pub record Says (t : Texts) (output output' error error' : List ℕ) (r : Said) : Type 0 where

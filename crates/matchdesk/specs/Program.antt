@@ -1,13 +1,14 @@
 -- Promise: what the program is asked for, and what it writes to standard output and to standard error for each job. The text of the rewrite's answer is
 -- document 01's ('Cells on either edge', the last paragraph); of the fuller rewrite (document 02, W2) it is the same. The pages are document 02's (W1),
--- and so is the other factor (W14), which is found without an image.
+-- and so are the packed form (W8) and the other factor (W14), which is found without an image.
+use mathlib.Core.Path.{_≡_}
 use mathlib.Core.List.{List, [], _∷_, _++_}
 use mathlib.Core.Bool.{Bool, true, false, cond, _&&_}
-use Prim.Native.Nat.{ℕ}
+use Prim.Native.Nat.{ℕ, _<_}
 use Prim.Native.String.{String}
 use lib.Dec.{eqb}
 use lib.IntN.{ℤ}
-use lib.ListN.{take}
+use lib.ListN.{length, take}
 use Rattle.cells.specs.Cells.{cells}
 use Rattle.cells.specs.Check.{maxImage}
 use Rattle.crystalfold.specs.declared.rules.RuleSet.the-variants.{Default, Fuller}
@@ -19,6 +20,8 @@ use Rattle.factor.specs.declared.Factor.the-variants.{Found, NoFactor}
 use Rattle.image.specs.SiteCheck.{siteAnswer}
 use Rattle.listing.specs.Places.{ascii}
 use Rattle.listing.specs.Text.{lineFeed, rewrittenText, refusedText, refusalText, checkedText}
+use Rattle.packed.specs.Operations.{packResult, unpackResult}
+use Rattle.packed.specs.Reading.{Result, bytes, refused, ends}
 use Rattle.pages.specs.Pages.{pagesText}
 use Rattle.passes.specs.Contracts.{lengthWritten}
 use Rattle.passes.specs.Passes.{passAnswer, passBytes, passOutput}
@@ -35,7 +38,7 @@ use Rattle.matchdesk.specs.declared.product.Product.the-variants.{Fx, I3
 use Rattle.matchdesk.specs.declared.Asked.{Asked}
 use Rattle.matchdesk.specs.declared.Asked.the-variants.{For, Unknown}
 use Rattle.matchdesk.specs.declared.Job.{Job}
-use Rattle.matchdesk.specs.declared.Job.the-variants.{Rewrite as RewriteJob, Bytes, Check, Pages}
+use Rattle.matchdesk.specs.declared.Job.the-variants.{Rewrite as RewriteJob, Bytes, Check, Pages, Pack, Unpack}
 
 -- ---- the words
 
@@ -45,7 +48,7 @@ sameBytes [] (y ∷ ys) = false
 sameBytes (x ∷ xs) [] = false
 sameBytes (x ∷ xs) (y ∷ ys) = eqb x y && sameBytes xs ys
 
--- `rewrite`, `fuller`, `bytes`, `check` and `pages`
+-- `rewrite`, `fuller`, `bytes`, `check`, `pages`, `pack` and `unpack`
 abbrev pub rewriteWord : List ℕ
 rewriteWord = 114 ∷ 101 ∷ 119 ∷ 114 ∷ 105 ∷ 116 ∷ 101 ∷ []
 
@@ -61,13 +64,21 @@ checkWord = 99 ∷ 104 ∷ 101 ∷ 99 ∷ 107 ∷ []
 abbrev pub pagesWord : List ℕ
 pagesWord = 112 ∷ 97 ∷ 103 ∷ 101 ∷ 115 ∷ []
 
+abbrev pub packWord : List ℕ
+packWord = 112 ∷ 97 ∷ 99 ∷ 107 ∷ []
+
+abbrev pub unpackWord : List ℕ
+unpackWord = 117 ∷ 110 ∷ 112 ∷ 97 ∷ 99 ∷ 107 ∷ []
+
 unfoldable pub askedFor : List ℕ → Asked
 askedFor word =
     cond (sameBytes word rewriteWord) (For (RewriteJob Default))
     (cond (sameBytes word fullerWord) (For (RewriteJob Fuller))
     (cond (sameBytes word bytesWord) (For Bytes)
     (cond (sameBytes word checkWord) (For Check)
-    (cond (sameBytes word pagesWord) (For Pages) Unknown))))
+    (cond (sameBytes word pagesWord) (For Pages)
+    (cond (sameBytes word packWord) (For Pack)
+    (cond (sameBytes word unpackWord) (For Unpack) Unknown))))))
 
 -- `fx` and `i32`
 abbrev pub fxWord : List ℕ
@@ -107,23 +118,41 @@ abbrev pub laidText : Checked → List ℕ → List ℕ
 laidText Good pages = pages
 laidText (RefusedBy x) pages = refusalText x
 
+-- a packed form, or the image of one; a refusal goes to standard error. There is always room for the bytes
+abbrev pub resultTexts : Result → Texts
+resultTexts (bytes b) = onOutput b
+resultTexts (refused x) = onError (refusalText x)
+resultTexts (ends position detail) = onError (refusedText 32 position detail)
+
 -- the bytes that a rewrite wrote, by its answer and what its output then holds
 abbrev pub written : Rewrite → List ℕ → List ℕ
 written r out = take (lengthWritten r) out
 
--- what each job writes for an image; a rewrite is lent an output as long as the longest one
+-- what each job writes for its input, which is an image, for `unpack` a packed form; a rewrite is lent an output as long as the longest image
 unfoldable pub programTexts : Job → List ℕ → Texts
-programTexts (RewriteJob k) image = onOutput (answerText (passAnswer (Both k) image maxImage) (passBytes (Both k) image))
-programTexts Bytes image = answerBytes (passAnswer (Both Default) image maxImage) (passBytes (Both Default) image)
-programTexts Check image = onOutput (checkedText (siteAnswer image))
-programTexts Pages image = onOutput (laidText (siteAnswer image) (pagesText image))
+programTexts (RewriteJob k) input = onOutput (answerText (passAnswer (Both k) input maxImage) (passBytes (Both k) input))
+programTexts Bytes input = answerBytes (passAnswer (Both Default) input maxImage) (passBytes (Both Default) input)
+programTexts Check input = onOutput (checkedText (siteAnswer input))
+programTexts Pages input = onOutput (laidText (siteAnswer input) (pagesText input))
+programTexts Pack input = resultTexts (packResult input)
+programTexts Unpack input = resultTexts (unpackResult input)
+
+-- Of an input past the longest image the program keeps the first 65,536 bytes and, of the others, only that there are some (src/input.rt). What it
+-- writes for what it kept is what each job writes for the whole input: an image so long is refused, whatever its bytes are, and of a packed form
+-- the first 65,536 bytes decide, since the cells of the longest image keep fewer.
+abbrev pub LongInputs : Type 0
+LongInputs =
+    (job : Job) (input kept : List ℕ) → maxImage < length input → maxImage < length kept → take maxImage kept ≡ take maxImage input
+    → programTexts job kept ≡ programTexts job input
 
 -- what a job leaves in the output that it lends to a rewrite
 unfoldable pub workAfter : Job → List ℕ → List ℕ → List ℕ
-workAfter (RewriteJob k) image before = passOutput (Both k) image before
-workAfter Bytes image before = passOutput (Both Default) image before
-workAfter Check image before = before
-workAfter Pages image before = before
+workAfter (RewriteJob k) input before = passOutput (Both k) input before
+workAfter Bytes input before = passOutput (Both Default) input before
+workAfter Check input before = before
+workAfter Pages input before = before
+workAfter Pack input before = before
+workAfter Unpack input before = before
 
 -- ---- the texts of `factor`
 

@@ -48,7 +48,7 @@ pub fn read_to_end(buffer: &mut [u8], kept: usize) -> Input
 }
 
 // One read, behind the bytes that are kept. Bytes past the longest image are read over each other: that they are there is all that a job
-// has to know, since it refuses such a length whatever they are. Once the input is past that length, it stays so.
+// has to know (`LongInputs`, specs/Program.antt). Once the input is past that length, it stays so.
 fn read_some(buffer: &mut [u8], kept: usize) -> Step
     requires { ⌜ maxImage < length (now buffer) ⌝ }
     ensures { λ r. ⌜ StepWithin kept (length (now (buffer .exit))) r ⌝ }

@@ -1,5 +1,5 @@
-// The program: reads an image on standard input, does the job that its argument names, and writes what the job says. Or finds the other
-// factor of a product, by its arguments alone.
+// The program: reads an image or a packed form on standard input, does the job that its argument names, and writes what the job says. Or finds
+// the other factor of a product, by its arguments alone.
 mod input;
 mod product;
 
@@ -11,27 +11,33 @@ ghost use Rattle.io.specs.Counts.{Counts};
 ghost use Rattle.image.specs.SiteCheck.{siteAnswer};
 ghost use Rattle.listing.specs.Contracts.{TextWritten};
 ghost use Rattle.listing.specs.Text.{checkedText};
+ghost use Rattle.packed.specs.Operations.{lengthWritten};
 ghost use Rattle.pages.specs.Pages.{pagesText};
 ghost use Rattle.matchdesk.specs.Program.{askedFor, written, answerText, answerBytes, laidText, programTexts, workAfter};
-ghost use Rattle.matchdesk.specs.Contracts.{lengthOf, Room, Fits, Says};
+ghost use Rattle.matchdesk.specs.Contracts.{lengthOf, Room, Fits, faultText, Says};
 use cells::check::MAX_IMAGE;
 use cells::refusal::Checked;
+use cells::refusal::Numbers;
 use crystalfold::rules::RuleSet;
 use input::Input;
 use libc::STDERR_FILENO;
 use libc::STDOUT_FILENO;
 use listing::Listed;
+use packed::Packing;
 use pages::Paged;
 use passes::Rewrite;
 use product::Chosen;
 use product::Product;
 
-// What the program can do: the text of a rewrite's answer, by a rule set; the rewritten image itself; the site check; the image's pages.
+// What the program can do: the text of a rewrite's answer, by a rule set; the rewritten image itself; the site check; the image's pages; its
+// packed form; and, of a packed form, the image.
 enum Job {
     Rewrite(RuleSet),
     Bytes,
     Check,
     Pages,
+    Pack,
+    Unpack,
 }
 
 // What an argument asks for.
@@ -58,6 +64,9 @@ const LINE: usize = 71;
 // Bytes for the word of a number, which needs no more than 11.
 const NUMBER: usize = 64;
 
+// The number of the refusal where a packed form ends inside a cell or before a promised one.
+const ENDS: usize = 32;
+
 fn main() {
     if os::arg_count() == 5 {
         factor_job();
@@ -68,8 +77,8 @@ fn main() {
         usage();
         return;
     };
-    let mut image = input_buffer();
-    let input = input::read_to_end(&mut image, 0);
+    let mut buffer = input_buffer();
+    let input = input::read_to_end(&mut buffer, 0);
     let Input::Bytes(n) = input else {
         os::fail(b"standard input");
         return;
@@ -77,7 +86,7 @@ fn main() {
     let mut work = work_buffer();
     let mut output = output_buffer();
     let mut error = line_buffer();
-    let said = run(job, &image[..n], &mut work, &mut output, &mut error);
+    let said = run(job, &buffer[..n], &mut work, &mut output, &mut error);
     let a = said.output;
     let b = said.error;
     say(&output[..a], &error[..b]);
@@ -86,7 +95,7 @@ fn main() {
 fn usage() {
     io::write_all(
         STDERR_FILENO,
-        b"usage: matchdesk [rewrite | fuller | bytes | check | pages] < image\n       matchdesk factor (fx | i32) WANTED FACTOR\n",
+        b"usage: matchdesk [rewrite | fuller | bytes | check | pages | pack] < image\n       matchdesk unpack < packed\n       matchdesk factor (fx | i32) WANTED FACTOR\n",
     );
 }
 
@@ -161,36 +170,44 @@ fn job_of(word: &[u8]) -> Asked
     if check::same(word, b"pages") {
         return Asked::For(Job::Pages);
     }
+    if check::same(word, b"pack") {
+        return Asked::For(Job::Pack);
+    }
+    if check::same(word, b"unpack") {
+        return Asked::For(Job::Unpack);
+    }
     Asked::Unknown
 }
 
-// Does a job on an image. What it says stands over the start of `output` and of `error`; `work` is the output that a rewrite is lent.
-fn run(job: Job, image: &[u8], work: &mut [u8], output: &mut [u8], error: &mut [u8]) -> Said
+// Does a job on its input. What it says stands over the start of `output` and of `error`; `work` is the output that a rewrite is lent.
+fn run(job: Job, input: &[u8], work: &mut [u8], output: &mut [u8], error: &mut [u8]) -> Said
     requires { ⌜ Room (now work) (now output) (now error) ⌝ }
     ensures { λ r. ⌜ Counts (r .output) (now (output .exit)) × Counts (r .error) (now (error .exit)) ⌝ }
-    ensures { λ r. ⌜ Says (programTexts job (now (image .entry))) (now (output .entry)) (now (output .exit)) (now (error .entry)) (now (error .exit)) r ⌝ }
-    ensures { λ _. ⌜ now (work .exit) ≡ workAfter job (now (image .entry)) (now (work .entry)) ⌝ }
+    ensures { λ r. ⌜ Says (programTexts job (now (input .entry))) (now (output .entry)) (now (output .exit)) (now (error .entry)) (now (error .exit)) r ⌝ }
+    ensures { λ _. ⌜ now (work .exit) ≡ workAfter job (now (input .entry)) (now (work .entry)) ⌝ }
 {
     match job {
         Job::Rewrite(rules) => {
-            let reply = passes::run_opt_passes(rules, image, work);
+            let reply = passes::run_opt_passes(rules, input, work);
             Said {
                 output: answer_text(reply, work, output),
                 error: 0,
             }
         }
         Job::Bytes => {
-            let reply = passes::run_default_opt_passes(image, work);
+            let reply = passes::run_default_opt_passes(input, work);
             answer_bytes(reply, work, output, error)
         }
         Job::Check => Said {
-            output: check_line(image::site_check(image), output),
+            output: check_line(image::site_check(input), output),
             error: 0,
         },
         Job::Pages => Said {
-            output: lay_out(image, output),
+            output: lay_out(input, output),
             error: 0,
         },
+        Job::Pack => answer_packing(packed::pack(input, output), error),
+        Job::Unpack => answer_packing(packed::unpack(input, output), error),
     }
 }
 
@@ -238,6 +255,35 @@ fn lay_out(image: &[u8], output: &mut [u8]) -> usize
         Paged::Laid(n) => n,
         Paged::Refused(refusal) => check_line(Checked::Refused(refusal), output),
         Paged::TooShort => 0,
+    }
+}
+
+// How many bytes of a packed form, or of the image of one, stand in the output already; or the line of the refusal.
+fn answer_packing(packing: Packing, error: &mut [u8]) -> Said
+    requires { ⌜ 71 ≤ length (now error) ⌝ }
+    ensures { λ r. ⌜ (r .output ≡ lengthWritten packing) × Counts (r .error) (now (error .exit)) ⌝ }
+    ensures { λ r. ⌜ TextWritten (faultText packing) (now (error .entry)) (now (error .exit)) (r .error) ⌝ }
+{
+    match packing {
+        Packing::Bytes(n) => Said {
+            output: n,
+            error: 0,
+        },
+        Packing::Refused(refusal) => Said {
+            output: 0,
+            error: check_line(Checked::Refused(refusal), error),
+        },
+        Packing::Ends(position, detail) => {
+            let numbers = Numbers {
+                number: ENDS,
+                position,
+                detail,
+            };
+            Said {
+                output: 0,
+                error: length_of(listing::list_refused(numbers, error)),
+            }
+        }
     }
 }
 

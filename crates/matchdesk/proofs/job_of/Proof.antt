@@ -4,7 +4,7 @@ use mathlib.Core.Bool.{false}
 use mathlib.Core.List.{List}
 use Prim.Native.Nat.{ℕ}
 use denote.Ref.{now}
-use Rattle.matchdesk.specs.Program.{sameBytes, rewriteWord, fullerWord, bytesWord, checkWord, pagesWord, askedFor}
+use Rattle.matchdesk.specs.Program.{sameBytes, rewriteWord, fullerWord, bytesWord, checkWord, pagesWord, packWord, unpackWord, askedFor}
 use Rattle.matchdesk.proofs.Words.{same-test}
 use borrow.Author.Needs.{needs}
 use Rattle.matchdesk.proofs.job_of.Statement.{statement}
@@ -24,6 +24,12 @@ word₃ c = word₂ (c .before .before .before)
 abbrev word₄ : tie.Else4 → List ℕ
 word₄ c = word₃ (c .before .before .before)
 
+abbrev word₅ : tie.Else5 → List ℕ
+word₅ c = word₄ (c .before .before .before)
+
+abbrev word₆ : tie.Else6 → List ℕ
+word₆ c = word₅ (c .before .before .before)
+
 not-rewrite : (c : tie.Else1) → sameBytes (word₁ c) rewriteWord ≡ false
 not-rewrite c = same-test _ _ rewriteWord (c .before .same .ensures) ∙ c .if1 .left
 
@@ -35,6 +41,12 @@ not-bytes c = same-test _ _ bytesWord (c .before .same3 .ensures) ∙ c .if3 .le
 
 not-check : (c : tie.Else4) → sameBytes (word₄ c) checkWord ≡ false
 not-check c = same-test _ _ checkWord (c .before .same4 .ensures) ∙ c .if4 .left
+
+not-pages : (c : tie.Else5) → sameBytes (word₅ c) pagesWord ≡ false
+not-pages c = same-test _ _ pagesWord (c .before .same5 .ensures) ∙ c .if5 .left
+
+not-pack : (c : tie.Else6) → sameBytes (word₆ c) packWord ≡ false
+not-pack c = same-test _ _ packWord (c .before .same6 .ensures) ∙ c .if6 .left
 
 -- ---- the answers
 
@@ -68,13 +80,34 @@ is-pages c =
     let d = e .before .before .before in
     rw (not-rewrite (d .before .before .before), not-fuller d, not-bytes e, not-check f, same-test _ _ pagesWord (c .before .same5 .ensures) ∙ c .if5 .taken)
 
-is-none : tie.Need-returns-6
+is-pack : tie.Need-returns-6
 unfolding askedFor
-is-none c =
-    let f = c .before .before .before in
+is-pack c =
+    let g = c .before .before .before in
+    let f = g .before .before .before in
     let e = f .before .before .before in
     let d = e .before .before .before in
-    rw (not-rewrite (d .before .before .before), not-fuller d, not-bytes e, not-check f, same-test _ _ pagesWord (c .before .same5 .ensures) ∙ c .if5 .left)
+    rw (not-rewrite (d .before .before .before), not-fuller d, not-bytes e, not-check f, not-pages g, same-test _ _ packWord (c .before .same6 .ensures) ∙ c .if6 .taken)
+
+is-unpack : tie.Need-returns-7
+unfolding askedFor
+is-unpack c =
+    let h = c .before .before .before in
+    let g = h .before .before .before in
+    let f = g .before .before .before in
+    let e = f .before .before .before in
+    let d = e .before .before .before in
+    rw (not-rewrite (d .before .before .before), not-fuller d, not-bytes e, not-check f, not-pages g, not-pack h, same-test _ _ unpackWord (c .before .same7 .ensures) ∙ c .if7 .taken)
+
+is-none : tie.Need-returns-8
+unfolding askedFor
+is-none c =
+    let h = c .before .before .before in
+    let g = h .before .before .before in
+    let f = g .before .before .before in
+    let e = f .before .before .before in
+    let d = e .before .before .before in
+    rw (not-rewrite (d .before .before .before), not-fuller d, not-bytes e, not-check f, not-pages g, not-pack h, same-test _ _ unpackWord (c .before .same7 .ensures) ∙ c .if7 .left)
 
 pub job-of-spec : {M : Type 1} → statement M
 job-of-spec =
@@ -95,4 +128,10 @@ job-of-spec =
     (λ c. search needs)
     (λ c κs. search needs)
     is-pages
+    (λ c. search needs)
+    (λ c κs. search needs)
+    is-pack
+    (λ c. search needs)
+    (λ c κs. search needs)
+    is-unpack
     is-none)

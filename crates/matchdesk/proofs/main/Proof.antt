@@ -5,8 +5,8 @@ use borrow.Author.Needs.{needs}
 use Rattle.matchdesk.proofs.main.Statement.{statement}
 use Rattle.matchdesk.proofs.main.Tie as tie
 
-array-share-prefix-image : tie.Need-array-share-prefix-image
-array-share-prefix-image c = rw (c .before .before .before .before .input .given .1) at (c .before .before .before .before .before .before .before .read-to-end .ensures .0) .1
+array-share-prefix-buffer : tie.Need-array-share-prefix-buffer
+array-share-prefix-buffer c = rw (c .before .before .before .before .input .given .1) at (c .before .before .before .before .before .before .before .read-to-end .ensures .0) .1
 
 slice-aggregate-run : tie.Need-slice-aggregate-run
 slice-aggregate-run c = sym (length-take-le _ _ ((rw (c .before .before .before .before .before .input .given .1) at (c .before .before .before .before .before .before .before .before .read-to-end .ensures .0)) .1))
@@ -34,7 +34,7 @@ main-spec =
     (λ c κs. search needs)
     (λ c κs. search needs)
     (λ c κs. search needs)
-    array-share-prefix-image
+    array-share-prefix-buffer
     slice-aggregate-run
     (λ c. search needs)
     (λ c. search needs)

@@ -3,7 +3,9 @@ use mathlib.Core.Path.{refl}
 use native.Mathlib.Omega.{arith}
 use denote.Ref.{now}
 use Rattle.crystalfold.specs.declared.rules.RuleSet.the-variants.{Default}
+use Rattle.packed.specs.Operations.{packResult, unpackResult}
 use Rattle.matchdesk.specs.Program.{answerText, answerBytes, programTexts, workAfter}
+use Rattle.matchdesk.proofs.PackedTexts.{pack-short, unpack-short, packing-said}
 use Rattle.matchdesk.proofs.Replies.{reply-fits, said}
 use Rattle.matchdesk.proofs.Texts.{none-counted, only-output}
 use borrow.Author.Needs.{needs}
@@ -14,13 +16,13 @@ answer-text-requires : tie.Need-answer-text-requires
 answer-text-requires c κs =
     let s = c .before .before .before .before .before .before .before .before .before .before .before .before .before in
     let w = c .before .before .before .before .run-opt-passes in
-    reply-fits _ (now (s .args .image)) (now (s .args .work)) _ _ (w .ensures) (omega (arith, w .kept)) _ (s .pre .for-output)
+    reply-fits _ (now (s .args .input)) (now (s .args .work)) _ _ (w .ensures) (omega (arith, w .kept)) _ (s .pre .for-output)
 
 answer-bytes-requires : tie.Need-answer-bytes-requires
 answer-bytes-requires c κs =
     let s = c .before .before .before .before .before .before .before .before .before .before .before .before .before in
     let w = c .before .before .before .before .before .run-default-opt-passes in
-    (reply-fits Default (now (s .args .image)) (now (s .args .work)) _ _ (w .ensures) (omega (arith, w .kept)) _ (s .pre .for-output), s .pre .for-error)
+    (reply-fits Default (now (s .args .input)) (now (s .args .work)) _ _ (w .ensures) (omega (arith, w .kept)) _ (s .pre .for-output), s .pre .for-error)
 
 returns : tie.Need-returns
 unfolding programTexts workAfter
@@ -32,7 +34,7 @@ returns c =
     let v = c .before .before .answer-text .ensures in (
       (v .0, none-counted (now (s .args .error))),
       (
-        rw (j .1, said rules (now (s .args .image)) (now (s .args .work)) _ answerText (λ x s t. refl) _ w (s .pre .for-work)) (only-output (v .1) (now (s .args .error))),
+        rw (j .1, said rules (now (s .args .input)) (now (s .args .work)) _ answerText (λ x s t. refl) _ w (s .pre .for-work)) (only-output (v .1) (now (s .args .error))),
         rw (j .1) (w .done .bytes),
       ),
     )
@@ -46,7 +48,7 @@ returns-2 c =
     let v = c .before .before .before .before .answer-bytes .ensures in (
       v .0,
       (
-        rw (e, said Default (now (s .args .image)) (now (s .args .work)) _ answerBytes (λ x s t. refl) _ w (s .pre .for-work)) (v .1),
+        rw (e, said Default (now (s .args .input)) (now (s .args .work)) _ answerBytes (λ x s t. refl) _ w (s .pre .for-work)) (v .1),
         rw e (w .done .bytes),
       ),
     )
@@ -74,6 +76,24 @@ returns-4 c =
       (rw e (only-output (v .1) (now (s .args .error))), rw e refl),
     )
 
+returns-5 : tie.Need-returns-5
+unfolding programTexts workAfter
+returns-5 c =
+    let s = c .before .before .before .before .before .before .before .before .before .before .before .before .before .before in
+    let e = c .before .before .before .before .before .before .before .before .enum-told4 .given .1 in
+    let v = c .before .before .answer-packing .ensures in
+    let t = packing-said (packResult (now (s .args .input))) (pack-short (now (s .args .input))) (omega (arith, s .pre .for-output)) (c .before .before .before .before .before .before .pack .ensures .done) (record { output = v .0 .0; error-text = v .1 }) in
+    ((t .0, v .0 .1), (rw e (t .1), rw e refl))
+
+returns-6 : tie.Need-returns-6
+unfolding programTexts workAfter
+returns-6 c =
+    let s = c .before .before .before .before .before .before .before .before .before .before .before .before .before .before in
+    let e = c .before .before .before .before .before .before .before .before .enum-told5 .given .1 in
+    let v = c .before .before .answer-packing2 .ensures in
+    let t = packing-said (unpackResult (now (s .args .input))) (unpack-short (now (s .args .input))) (omega (arith, s .pre .for-output)) (c .before .before .before .before .before .before .unpack .ensures .done) (record { output = v .0 .0; error-text = v .1 }) in
+    ((t .0, v .0 .1), (rw e (t .1), rw e refl))
+
 pub run-spec : {M : Type 1} → statement M
 run-spec =
     tie.close
@@ -90,6 +110,12 @@ run-spec =
     (λ c. search needs)
     (λ c κs. search needs)
     (λ c. search needs)
+    (λ c κs. search needs)
+    (λ c κs. search needs)
+    (λ c. search needs)
+    (λ c κs. search needs)
+    (λ c κs. search needs)
+    (λ c. search needs)
     (λ c. search needs)
     returns
     (λ c. search needs)
@@ -99,4 +125,10 @@ run-spec =
     (λ c. search needs)
     returns-3
     (λ c. search needs)
-    returns-4)
+    returns-4
+    (λ c. search needs)
+    (λ c. search needs)
+    returns-5
+    (λ c. search needs)
+    (λ c. search needs)
+    returns-6)
