@@ -3,8 +3,9 @@
 model's to the fuller rewrite (tests/differential), and its expected output, stdout. README.md has the layout, and how to add a row or an
 operation.
 
-Every expected byte is written out by hand from documents 01 and 02. A word is a cell in hexadecimal, with zeros behind it; `CELL*N` is the cell
-N times, and `CELL*N@P` numbers these from 0 in the 2 bytes at P. Commands that the rows name by their bytes:
+Every expected byte is written out by hand from documents 01 and 02, but for what `pack` makes of images that are there for other operations: that
+goes by the widths below. A word is a cell in hexadecimal, with zeros behind it; `CELL*N` is the cell N times, and `CELL*N@P` numbers these from 0
+in the 2 bytes at P. Commands that the rows name by their bytes:
 
 Assert 01, Call 02, ClockRead 03, ClosureCall 04, EventPost 05, GateRead 06, GateWrite 07, Jmp 08, JmpIf 09, Label 0A, PulseEmit 0B, Ret 0C,
 RngNextI32 0D, RngSeed 0E, StateQuery 0F, StateUpdate 10, AddF64 11, AddFx 12, AddI32 13, BoolAnd 16, BoolNot 17, BoolOr 18, CmpEq 19,
@@ -14,6 +15,7 @@ MulFx 3B, MulI32 3C, QAnd 3D, QImpl 3E, QNot 3F, QOr 40, QTruthAnd 41, QTruthImp
 SubFx 4F, SubI32 50.
 """
 import collections
+import itertools
 import os
 import struct
 import sys
@@ -24,9 +26,28 @@ CASES = os.path.join(ROOT, "crates", "cases_passes")
 SAMPLE = os.path.join(ROOT, "tests", "differential", "sample.bin")
 
 GROUP, NAME, IMAGE, OUTPUT = range(4)
-IMAGE_CHECK, SITE_CHECK, CLEANUP, CRYSTALFOLD, REWRITE, FULLER, PAGES = range(16, 23)
+IMAGE_CHECK, SITE_CHECK, CLEANUP, CRYSTALFOLD, REWRITE, FULLER, PAGES, PACK, UNPACK = range(16, 25)
 
-# name, image, answers by operation: a refusal (number, position, detail), or the bytes written and the count of rewrites; a check writes none
+# The commands 01 to 51 by the Rust's names, each with the widths of its operands: document 01's, in the order in which the Rust's arm names them.
+COMMANDS = """
+Assert:2 Call:3,2,2 ClockRead:2 ClosureCall:3,2,2 EventPost:2 GateRead:2,2,2 GateWrite:2,2,2 Jmp:2 JmpIf:2,2 Label:2 PulseEmit:2 Ret:3
+RngNextI32:2,2,2 RngSeed:2,2 StateQuery:2,2 StateUpdate:2,2
+AddF64:2,2,2 AddFx:2,2,2 AddI32:2,2,2 AdtGet:2,2,2,2 AdtTag:2,2,2 BoolAnd:2,2,2 BoolNot:2,2 BoolOr:2,2,2 CmpEq:2,2,2 CmpI32Le:2,2,2
+CmpI32Lt:2,2,2 CmpU32Le:2,2,2 CmpU32Lt:2,2,2 AddU32:2,2,2 SubU32:2,2,2 MulU32:2,2,2 DivU32:2,2,2 ModU32:2,2,2 CmpNe:2,2,2 ConcatText:2,2,2
+DivF64:2,2,2 DivFx:2,2,2 DivI32:2,2,2 LoadBool:2,1 LoadF64:2,8 LoadFx:2,4 LoadI32:2,4 LoadQ:2,1 LoadText:2,2 LoadU32:2,4 LoadVar:2,2
+MakeAdt:2,2,2,4,2 MakeClosure:2,2,2 MakeRecord:2,2,2,5 MakeSequence:2,2 MakeTuple:2,2 MapContains:2,2,2 MapEmpty:2 MapGet:2,2,2,2
+MapSet:2,2,2,2 ModI32:2,2,2 MulF64:2,2,2 MulFx:2,2,2 MulI32:2,2,2 QAnd:2,2,2 QImpl:2,2,2 QNot:2,2 QOr:2,2,2 QTruthAnd:2,2,2
+QTruthImpl:2,2,2 QTruthNot:2,2 QTruthOr:2,2,2 RecordGet:2,2,2,2 SequenceContains:2,2,2 SequenceGet:2,2,2 SequenceIsEmpty:2,2
+SequenceLen:2,2 SequencePop:2,2 SequencePrepend:2,2,2 SequencePush:2,2,2 StoreVar:2,2,5,5 SubF64:2,2,2 SubFx:2,2,2 SubI32:2,2,2
+TupleGet:2,2,2
+""".split()
+NAMES = [command.split(":")[0] for command in COMMANDS]
+# How many bytes each keeps in the packed form, its own byte among them. A head has three operands of 2 bytes, an event's have 5, 5 and 4.
+KEPT = [1 + sum(map(int, command.split(":")[1].split(","))) for command in COMMANDS]
+HEAD, EVENT = 7, 15
+
+# name, image, answers by operation: a refusal (number, position, detail), or the bytes written and the count of rewrites; a check writes none.
+# For `unpack` the image is a packed form.
 Row = collections.namedtuple("Row", "name image answers")
 
 
@@ -35,7 +56,8 @@ def runs(data):
     if isinstance(data, int):
         return data, [(-(-data // 16), 0, bytes(16))]
     if isinstance(data, bytes):
-        return len(data), [(1, 0, data[i:i + 16].ljust(16, b"\0")) for i in range(0, len(data), 16)]
+        pieces = [data[i:i + 16].ljust(16, b"\0") for i in range(0, len(data), 16)]
+        return len(data), [(len(list(same)), 0, piece) for piece, same in itertools.groupby(pieces)]
     listed = []
     for word in data.split():
         cell, _, how = word.partition("*")
@@ -110,9 +132,15 @@ def cells(first, last, name, digits=""):
     return [cell(position, name, digits) for position in range(first, last + 1)]
 
 
+def expanded(image):
+    """The cells of an image."""
+    for count, place, cell in runs(image)[1]:
+        yield from (cell[:place] + struct.pack("<H", number) + cell[place + 2:] if place else cell for number in range(count))
+
+
 def counts(image):
     """How many functions and how many cells an image has, by its heads."""
-    cells = [cell for count, _, cell in runs(image)[1] for _ in range(count)]
+    cells = list(expanded(image))
     functions = at = 0
     while at < len(cells):
         functions, at = functions + 1, at + 1 + sum(struct.unpack_from("<HH", cells[at], 3))
@@ -147,17 +175,53 @@ def joined(one, other):
     return [one, other] + [behind(*way) for way in ways if len(way[0].answers[IMAGE_CHECK]) == 2]
 
 
-# The commands 01 to 51 by the Rust's names.
-NAMES = """
-Assert Call ClockRead ClosureCall EventPost GateRead GateWrite Jmp JmpIf Label PulseEmit Ret RngNextI32 RngSeed StateQuery StateUpdate
-AddF64 AddFx AddI32 AdtGet AdtTag BoolAnd BoolNot BoolOr CmpEq CmpI32Le CmpI32Lt CmpU32Le CmpU32Lt AddU32 SubU32 MulU32 DivU32 ModU32 CmpNe
-ConcatText DivF64 DivFx DivI32 LoadBool LoadF64 LoadFx LoadI32 LoadQ LoadText LoadU32 LoadVar MakeAdt MakeClosure MakeRecord MakeSequence
-MakeTuple MapContains MapEmpty MapGet MapSet ModI32 MulF64 MulFx MulI32 QAnd QImpl QNot QOr QTruthAnd QTruthImpl QTruthNot QTruthOr
-RecordGet SequenceContains SequenceGet SequenceIsEmpty SequenceLen SequencePop SequencePrepend SequencePush StoreVar SubF64 SubFx SubI32
-TupleGet
-""".split()
+def packed(image):
+    """The packed form of an image that the image check passes, by KEPT."""
+    code = events = 0
+    form = b""
+    for cell in expanded(image):
+        if code:
+            size, code = KEPT[cell[0] - 1], code - 1
+        elif events:
+            size, events = EVENT, events - 1
+        else:
+            size, (code, events) = HEAD, struct.unpack_from("<HH", cell, 3)
+        form += cell[:size]
+    return form
 
-# A name and rows each, in the order of the document's modules: the checks, cleanup, CrystalFold, the image run.
+
+def with_pack(row):
+    """The row of an image with what `pack` answers, which refuses as the image check and doesn't check sites. Of long images, those of 'packed,
+    longest' are enough."""
+    check = row.answers.get(IMAGE_CHECK)
+    if not check or PACK in row.answers or 16384 < runs(row.image)[0]:
+        return row
+    return row._replace(answers={**row.answers, PACK: check if len(check) == 3 else (packed(row.image), 0)})
+
+
+def joined_bytes(words):
+    """The bytes of words one after another; `WORD*N` is the word N times."""
+    return b"".join(bytes.fromhex(word) * int(count or 1) for word, _, count in (word.partition("*") for word in words.split()))
+
+
+def both_ways(name, words):
+    """An image that `pack` packs, and its packed form, which `unpack` unpacks: each word has all the bytes that a cell keeps."""
+    form = joined_bytes(words)
+    assert packed(words) == form, name
+    return [Row(name, words, {IMAGE_CHECK: ("", 0), PACK: (form, 0)}), Row(name + ", packed", form, {UNPACK: (words, 0)})]
+
+
+def no_form(name, words, number, position, detail):
+    """Bytes that `unpack` refuses."""
+    return Row(name, joined_bytes(words), {UNPACK: (number, position, detail)})
+
+
+# Packed forms of 4,096 cells, four functions of 1,023 events; of 4,095; and of 4,000 with a head behind them that promises 3,072 cells.
+FOUR = "F007000000FF03 000000000000000000000000000000*1023 " * 4
+LAST = "F007000000FF03 000000000000000000000000000000*1023 " * 3 + "F007000000FE03 000000000000000000000000000000*1022 "
+MOST = "F007000000FF03 000000000000000000000000000000*1023 " * 3 + "F0070000009F03 000000000000000000000000000000*927 F0070000080004 "
+
+# A name and rows each, in the order of the document's modules: the checks, cleanup, CrystalFold, the image run; then document 02's.
 GROUPS = [
     ("images, good", [
         good("no cells", "F007"),
@@ -836,6 +900,136 @@ GROUPS = [
              *[[heading(2, 1 + i // 49)] + cells(i, min(i + 49, 1055) - 1, "Label", "02") for i in range(0, 1055, 49)]),
         laid("4,096 functions without cells", "F007*4096", [heading(7, 1)] * 4096),
     ]),
+    # document 02, W8: of each cell its first byte and its operands, an absent value's zeros too; a head 7 bytes, an event 15
+    ("packed, both ways", [
+        *both_ways("nothing", ""),
+        *both_ways("no cells", "F0070000000000"),
+        *both_ways("the printed example", "F0070003000000 2B010005000000 13020001000100 0C010200"),
+        *both_ways("four functions, three without cells", "F0FFFF00000000 F0000001000000 0A0900 F0000000000000 F0393000000000"),
+        *both_ways("each command, no byte at its end zero", """F0070051000000
+            01FF03 0201FF0318072A09 03FF03 0401FF0318072A09 051807 06FF0318072A09 0718072A09FF03 081807 09FF031807 0A1807 0B1807 0C01FF03
+            0DFF0318072A09 0EFF031807 0FFF031807 101807FF03
+            11FF03FE03FD03 12FF03FE03FD03 13FF03FE03FD03 14FF03FE0318072A09 15FF03FE031807 16FF03FE03FD03 17FF03FE03 18FF03FE03FD03
+            19FF03FE03FD03 1AFF03FE03FD03 1BFF03FE03FD03 1CFF03FE03FD03 1DFF03FE03FD03 1EFF03FE03FD03 1FFF03FE03FD03 20FF03FE03FD03
+            21FF03FE03FD03 22FF03FE03FD03 23FF03FE03FD03 24FF03FE03FD03 25FF03FE03FD03 26FF03FE03FD03 27FF03FE03FD03
+            28FF0301 29FF031122334455667788 2AFF03D1C2B3A4 2BFF03D1C2B3A4 2CFF0303 2DFF031807 2EFF03D1C2B3A4 2FFF031807
+            30FF0318072A09D1C2B3A43C0B 31FF0318072A09 32FF0318072A0901A1B2C3D4 33FF031807 34FF031807 35FF0318072A09 36FF03 37FF0318072A093C0B
+            38FF0318072A093C0B 39FF03FE03FD03 3AFF03FE03FD03 3BFF03FE03FD03 3CFF03FE03FD03 3DFF03FE03FD03 3EFF03FE03FD03 3FFF03FE03
+            40FF03FE03FD03 41FF03FE03FD03 42FF03FE03FD03 43FF03FE03 44FF03FE03FD03 45FF03FE0318072A09 46FF0318072A09 47FF03FE031807
+            48FF03FE03 49FF03FE03 4AFF03FE03 4BFF0318072A09 4CFF0318072A09 4D1807FF0301A1B2C3D401E5F60718 4EFF03FE03FD03 4FFF03FE03FD03
+            50FF03FE03FD03 51FF03FE031807"""),
+        *both_ways("absent registers and sites", """F0070006000000
+            0200000018072A09 0400000018072A09 0C000000 32FF0318072A090000000000 4D1807FF0300000000000000000000 4D1807FF03000000000001E5F60718"""),
+        *both_ways("loads of zeros", "F0070006000000 28000000 2900000000000000000000 2A000000000000 2B000000000000 2C000000 2E000000000000"),
+        *both_ways("events, with each site and none", """F0070001000400
+            4D1807FF0301A1B2C3D401E5F60718
+            0001A1B2C3D40000000000FFFFFFFF 01000000000001E5F6071878563412 000000000000000000000001020304 010000000000000000000000000000"""),
+        *both_ways("sites of no event, one twice", "F0070002000000 4D0000000001090000000000000000 4D0000000001090000000000000000"),
+        *both_ways("events of no command", "F0070000000200 000109000000000000000000000000 000109000000000000000000000000"),
+        *both_ways("events alone, then instructions alone", "F0010000000100 000000000000000000000000000000 F0020001000000 0A0100"),
+    ]),
+    # 4,096 cells are the most; 61,424 bytes are the longest packed form, with two heads and 15 bytes of each other cell
+    ("packed, longest", [
+        *both_ways("2,048 instructions and 1,024 events", "F0070000080004 0A0100*2048 000000000000000000000000000000*1024"),
+        *both_ways("4,096 functions", "F0070000000000*4096"),
+        *both_ways("4,096 cells in four functions", FOUR),
+        *both_ways("61,424 bytes",
+                   "F0070000080004 4D1807FF0301A1B2C3D401E5F60718*2048 000000000000000000000000000000*1024 F008000000FE03 000000000000000000000000000000*1022"),
+    ]),
+    ("packed, refusal 2", [
+        no_form("first byte F1", "F1070000000000", 2, 0, 0),
+        no_form("first byte 0", "00000000000000", 2, 0, 0),
+        no_form("2,049 instructions", "F0070001080000", 2, 0, 0),
+        no_form("1,025 events", "F0070000000104", 2, 0, 0),
+        no_form("65,535 of both", "F00700FFFFFFFF", 2, 0, 0),
+        no_form("in function 1", "F0070001000000 0A0100 F1070000000000", 2, 1, 2),
+        no_form("in function 3, behind functions without cells", "F0070000000000*3 F0070001080000", 2, 3, 3),
+    ]),
+    ("packed, refusal 3", [
+        no_form("no command", "F0070001000000 00", 3, 0, 1),
+        no_form("command 52", "F0070001000000 52", 3, 0, 1),
+        no_form("a head for a command", "F0070001000000 F0070000000000", 3, 0, 1),
+        no_form("event kind 2", "F0070000000100 02", 3, 0, 1),
+        no_form("a command for an event", "F0070000000100 0A0100", 3, 0, 1),
+        no_form("event kind 255, whole", "F0070000000100 FF0000000000000000000000000000", 3, 0, 1),
+        no_form("in function 1", "F0070000000000 F0080002000000 0A0100 52", 3, 1, 3),
+    ]),
+    ("packed, refusal 4", [
+        no_form("register 1,024", "F0070001000000 2B000405000000", 4, 0, 1),
+        no_form("register 1,024 as rhs", "F0070001000000 13000000000004", 4, 0, 1),
+        no_form("register 1,024, present", "F0070001000000 0C010004", 4, 0, 1),
+        no_form("bool 2", "F0070001000000 28000002", 4, 0, 1),
+        no_form("quad 4", "F0070001000000 2C000004", 4, 0, 1),
+        no_form("presence 2", "F0070001000000 0C020000", 4, 0, 1),
+        no_form("an absent register not zero", "F0070001000000 0C000100", 4, 0, 1),
+        no_form("an absent dst not zero", "F0070001000000 0200000118072A09", 4, 0, 1),
+        no_form("an absent site of a MakeRecord not zero", "F0070001000000 320000000000000000000001", 4, 0, 1),
+        no_form("an absent site of a StoreVar not zero", "F0070001000000 4D0000000000000000000000000001", 4, 0, 1),
+        no_form("an absent site of an event not zero", "F0070000000100 000001000000000000000000000000", 4, 0, 1),
+        no_form("presence 2 of an event", "F0070000000100 000000000000020000000000000000", 4, 0, 1),
+        no_form("in function 1, behind an event", "F0070000000100 000000000000000000000000000000 F0080002000000 0A0100 28000002", 4, 1, 4),
+    ]),
+    ("packed, refusal 32", [
+        no_form("one byte of a head", "F0", 32, 0, 0),
+        no_form("six bytes of a head", "F00700000000", 32, 0, 0),
+        no_form("before a promised instruction", "F0070001000000", 32, 0, 1),
+        no_form("before a promised event", "F0070000000100", 32, 0, 1),
+        no_form("before the second instruction", "F0070002000000 0A0100", 32, 0, 2),
+        no_form("before the event behind an instruction", "F0070001000100 0A0100", 32, 0, 2),
+        no_form("one byte of an instruction", "F0070001000000 2B", 32, 0, 1),
+        no_form("all but one byte of an instruction", "F0070001000000 2B0100050000", 32, 0, 1),
+        no_form("one byte of an event", "F0070000000100 00", 32, 0, 1),
+        no_form("all but one byte of an event", "F0070000000100 0000000000000000000000000000", 32, 0, 1),
+        no_form("as much as may be promised", "F0070000080004", 32, 0, 1),
+        no_form("a byte left behind the last function", "F0070003000000 2B010005000000 13020001000100 0C010200 00", 32, 1, 4),
+    ]),
+    # past 4,096 cells, whatever is there, and where a cell is promised and nothing is there
+    ("packed, refusal 1", [
+        no_form("4,097 functions", "F0070000000000*4097", 1, 0, 0),
+        no_form("a head behind 4,096 cells", FOUR + "F0070000000000", 1, 0, 0),
+        no_form("1 before 32: one byte behind 4,096 cells", FOUR + "F0", 1, 0, 0),
+        no_form("1 before 2: a wrong first byte", FOUR + "F1070000000000", 1, 0, 0),
+        no_form("1 before 2: past the limits", FOUR + "F00700FFFFFFFF", 1, 0, 0),
+        no_form("a promised instruction that is there", LAST + "F0070001000000 0A0100", 1, 0, 0),
+        no_form("a promised instruction that is not there", LAST + "F0070001000000", 1, 0, 0),
+        no_form("a promised event that is there", LAST + "F0070000000100 000000000000000000000000000000", 1, 0, 0),
+        no_form("a promised event that is not there", LAST + "F0070000000100", 1, 0, 0),
+        no_form("1 before 3: a promised instruction", LAST + "F0070001000000 52", 1, 0, 0),
+        no_form("1 before 3: a promised event", LAST + "F0070000000100 02", 1, 0, 0),
+        no_form("1 before 32: inside a promised instruction", LAST + "F0070001000000 2B", 1, 0, 0),
+        no_form("1 before 4: a promised instruction", LAST + "F0070001000000 2B000405000000", 1, 0, 0),
+        no_form("65,552 bytes", FOUR + "00*4144", 1, 0, 0),
+    ]),
+    ("packed, the earlier fault", [
+        no_form("3 before 32: no byte behind the command", "F0070001000000 FF", 3, 0, 1),
+        no_form("3 before 32: no byte behind the kind", "F0070000000100 02", 3, 0, 1),
+        no_form("32 before 2: a head cut, its first byte wrong", "F10700000000", 32, 0, 0),
+        no_form("32 before 2: a head cut, past the limits", "F00700FFFFFF", 32, 0, 0),
+        no_form("32 before 4: an instruction cut behind register 1,024", "F0070001000000 2B0004", 32, 0, 1),
+        no_form("32 before 4: an event cut behind presence 2", "F0070000000100 0002", 32, 0, 1),
+        no_form("4, then 3", "F0070002000000 2B000405000000 00", 4, 0, 1),
+        no_form("3, then 4", "F0070002000000 00 2B000405000000", 3, 0, 1),
+        no_form("4, then 32", "F0070002000000 2B000405000000", 4, 0, 1),
+        no_form("2, then 3", "F1070001000000 00", 2, 0, 0),
+        no_form("4, then 2", "F0070001000000 28000002 F1070000000000", 4, 0, 1),
+        no_form("2 in the last cell that fits", LAST + "F1070000000000", 2, 4, 4095),
+        no_form("2 in the last cell that fits, past the limits", LAST + "F0070001080000", 2, 4, 4095),
+        no_form("32 in the last cell that fits", "F0070000000000*4095 F00700", 32, 4095, 4095),
+        no_form("3 in the last cell that fits", "F0070000000000*4094 F0070001000000 52", 3, 4094, 4095),
+        no_form("4 in the last cell that fits", "F0070000000000*4094 F0070001000000 28000002", 4, 4094, 4095),
+        no_form("an image, not packed", "F0070003000000000000000000000000 2B010005000000000000000000000000", 3, 0, 1),
+    ]),
+    # a head that promises more cells than an image has room for is no fault in itself
+    ("packed, more promised than can follow", [
+        no_form("nothing there", MOST, 32, 4, 4001),
+        no_form("a bad command first", MOST + "0A0100 00", 3, 4, 4002),
+        no_form("a bad operand first", MOST + "28000002", 4, 4, 4001),
+        no_form("a cell cut first", MOST + "0A0100 0A01", 32, 4, 4002),
+        no_form("94 cells, and the 95th missing", MOST + "0A0100*94", 32, 4, 4095),
+        no_form("94 cells, and the 95th bad", MOST + "0A0100*94 52", 3, 4, 4095),
+        no_form("95 cells, and the 96th missing", MOST + "0A0100*95", 1, 0, 0),
+        no_form("96 cells", MOST + "0A0100*96", 1, 0, 0),
+    ]),
 ]
 
 
@@ -863,10 +1057,26 @@ def page_calls(image, answer):
         yield from (record(PAGES, refusal=(30, 0, 0), room=room) for room in (length - 1, n, 0))
 
 
+def packing_calls(operation, answer):
+    """The calls of `pack` and of `unpack`: lent as much as the result, a byte and a cell more; and a byte less, and nothing, which refuse 5 after
+    all else. Where that is refused: lent nothing, and as much as the longest image."""
+    if len(answer) == 3:
+        yield from (record(operation, refusal=answer, room=room) for room in (0, 65536))
+        return
+    length = runs(answer[0])[0]
+    yield bytes_record(OUTPUT, answer[0])
+    yield from (record(operation, length=length, room=room) for room in (length, length + 1, length + 16))
+    if length:
+        yield from (record(operation, refusal=(5, 0, 0), room=room) for room in (length - 1, 0))
+
+
 def calls(operation, image, answer):
     """An operation's calls on an image: a check is lent nothing; a rewrite as much as the image, a byte and a cell more, and a byte less."""
     if operation == PAGES:
         yield from page_calls(image, answer)
+        return
+    if operation in (PACK, UNPACK):
+        yield from packing_calls(operation, answer)
         return
     n = runs(image)[0]
     rooms = [0] if operation in (IMAGE_CHECK, SITE_CHECK) else [n, n + 1, n + 16]
@@ -926,7 +1136,8 @@ def main():
         print(__doc__.strip())
         sys.exit(0 if "--help" in sys.argv[1:] else 2)
     lines = []
-    for name, groups in (("images.bin", GROUPS), ("sample.bin", sampled())):
+    packing = [(group, [with_pack(row) for row in rows]) for group, rows in GROUPS]
+    for name, groups in (("images.bin", packing), ("sample.bin", sampled())):
         data, written = records(groups)
         with open(os.path.join(CASES, "data", name), "wb") as out:
             out.write(data)

@@ -12,6 +12,9 @@ use Rattle.cells.specs.declared.refusal.Checked.the-variants.{Good, Refused as 
 use Rattle.crystalfold.specs.declared.rules.RuleSet.the-variants.{Default as DefaultRules, Fuller as FullerRules}
 use Rattle.image.specs.Image.{imageAnswer}
 use Rattle.image.specs.SiteCheck.{siteAnswer}
+use Rattle.packed.specs.Operations.{packResult, unpackResult, answerOf, outputOf}
+use Rattle.packed.specs.declared.Packing.{Packing}
+use Rattle.packed.specs.declared.Packing.the-variants.{Bytes, Refused as RefusedPacking, Ends}
 use Rattle.pages.specs.Contracts.{pagesAnswer, pagesOutput}
 use Rattle.pages.specs.declared.Paged.{Paged}
 use Rattle.pages.specs.declared.Paged.the-variants.{Laid, Refused as RefusedPages, TooShort}
@@ -20,7 +23,7 @@ use Rattle.passes.specs.declared.Pass.the-variants.{Cleanup as CleanupPass, Cry
 use Rattle.passes.specs.declared.Rewrite.{Rewrite}
 use Rattle.passes.specs.declared.Rewrite.the-variants.{Written, Refused}
 use Rattle.cases_passes.specs.declared.operation.Operation.{Operation}
-use Rattle.cases_passes.specs.declared.operation.Operation.the-variants.{ImageCheck, SiteCheck, Cleanup, CrystalFold, Default, Fuller, Pages}
+use Rattle.cases_passes.specs.declared.operation.Operation.the-variants.{ImageCheck, SiteCheck, Cleanup, CrystalFold, Default, Fuller, Pages, Pack, Unpack}
 use Rattle.cases_passes.specs.declared.operation.Asked.{Asked}
 use Rattle.cases_passes.specs.declared.operation.Asked.the-variants.{Run, Unknown}
 use Rattle.cases_passes.specs.declared.operation.Reply.{Reply}
@@ -33,7 +36,9 @@ askedBy n =
     (cond (eqb n 19) (Run CrystalFold)
     (cond (eqb n 20) (Run Default)
     (cond (eqb n 21) (Run Fuller)
-    (cond (eqb n 22) (Run Pages) Unknown))))))
+    (cond (eqb n 22) (Run Pages)
+    (cond (eqb n 23) (Run Pack)
+    (cond (eqb n 24) (Run Unpack) Unknown))))))))
 
 -- "success gives the length written and the report"; "the two checks .. on success answer only that"
 abbrev pub goodReply : ℕ → ℕ → Bool → Reply
@@ -55,7 +60,12 @@ pagesReply (Laid n) = goodReply n 0 false
 pagesReply (RefusedPages x) = refusedReply (numbersOf x)
 pagesReply TooShort = refusedReply (numbered 30 0 0)
 
--- on the image s, lent n bytes
+abbrev pub packingReply : Packing → Reply
+packingReply (Bytes n) = goodReply n 0 false
+packingReply (RefusedPacking x) = refusedReply (numbersOf x)
+packingReply (Ends position detail) = refusedReply (numbered 32 position detail)
+
+-- on s, an image or, for `unpack`, a packed form, lent n bytes
 abbrev pub answer : Operation → List ℕ → ℕ → Reply
 answer ImageCheck s n = checkReply (imageAnswer s)
 answer SiteCheck s n = checkReply (siteAnswer s)
@@ -64,6 +74,8 @@ answer CrystalFold s n = rewriteReply (passAnswer (CrystalFoldPass DefaultRules)
 answer Default s n = rewriteReply (passAnswer (Both DefaultRules) s n)
 answer Fuller s n = rewriteReply (passAnswer (Both FullerRules) s n)
 answer Pages s n = pagesReply (pagesAnswer s n)
+answer Pack s n = packingReply (answerOf (packResult s) n)
+answer Unpack s n = packingReply (answerOf (unpackResult s) n)
 
 -- what the lent bytes then are; "the two checks write nothing"
 abbrev pub output : Operation → List ℕ → List ℕ → List ℕ
@@ -74,3 +86,5 @@ output CrystalFold s before = passOutput (CrystalFoldPass DefaultRules) s before
 output Default s before = passOutput (Both DefaultRules) s before
 output Fuller s before = passOutput (Both FullerRules) s before
 output Pages s before = pagesOutput s before
+output Pack s before = outputOf (packResult s) before
+output Unpack s before = outputOf (unpackResult s) before

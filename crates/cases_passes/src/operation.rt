@@ -4,10 +4,11 @@ ghost use mathlib.Core.Logic.{_↔_};
 ghost use mathlib.Core.Bool.{true};
 ghost use lib.ListN.{length};
 ghost use Rattle.cells.specs.Lists.{one};
-ghost use Rattle.cases_passes.specs.Operations.{askedBy, goodReply, refusedReply, checkReply, rewriteReply, pagesReply, answer, output};
+ghost use Rattle.cases_passes.specs.Operations.{askedBy, goodReply, refusedReply, checkReply, rewriteReply, pagesReply, packingReply, answer, output};
 use cells::refusal::Checked;
 use cells::refusal::Numbers;
 use cells::refusal::numbers_of;
+use packed::Packing;
 use pages::Paged;
 use passes::Rewrite;
 
@@ -19,6 +20,8 @@ pub enum Operation {
     Default,
     Fuller,
     Pages,
+    Pack,
+    Unpack,
 }
 
 // What a byte asks for.
@@ -48,11 +51,13 @@ pub fn asked_by(byte: u8) -> Asked
         20 => Asked::Run(Operation::Default),
         21 => Asked::Run(Operation::Fuller),
         22 => Asked::Run(Operation::Pages),
+        23 => Asked::Run(Operation::Pack),
+        24 => Asked::Run(Operation::Unpack),
         _ => Asked::Unknown,
     }
 }
 
-// Runs an operation on an image and a lent output.
+// Runs an operation on an image, or on a packed form, and a lent output.
 pub fn run(operation: Operation, image: &[u8], out: &mut [u8]) -> Reply
     ensures { λ r. ⌜ r ≡ answer operation (now (image .entry)) (length (now (out .entry))) ⌝ }
     ensures { λ _. ⌜ now (out .exit) ≡ output operation (now (image .entry)) (now (out .entry)) ⌝ }
@@ -65,6 +70,8 @@ pub fn run(operation: Operation, image: &[u8], out: &mut [u8]) -> Reply
         Operation::Default => of_rewrite(passes::run_default_opt_passes(image, out)),
         Operation::Fuller => of_rewrite(passes::run_fuller_opt_passes(image, out)),
         Operation::Pages => of_pages(pages::pages(image, out)),
+        Operation::Pack => of_packing(packed::pack(image, out)),
+        Operation::Unpack => of_packing(packed::unpack(image, out)),
     }
 }
 
@@ -96,6 +103,20 @@ fn of_pages(r: Paged) -> Reply
             number: 30,
             position: 0,
             detail: 0,
+        }),
+    }
+}
+
+fn of_packing(r: Packing) -> Reply
+    ensures { λ t. ⌜ t ≡ packingReply r ⌝ }
+{
+    match r {
+        Packing::Bytes(length) => good(length, 0, false),
+        Packing::Refused(x) => refused(numbers_of(x)),
+        Packing::Ends(position, detail) => refused(Numbers {
+            number: 32,
+            position,
+            detail,
         }),
     }
 }

@@ -34,9 +34,17 @@ returns-7 c = simp (c .match .keys7)
 
 returns-8 : tie.Need-returns-8
 unfolding askedBy
-returns-8 c =
+returns-8 c = simp (c .match .keys8)
+
+returns-9 : tie.Need-returns-9
+unfolding askedBy
+returns-9 c = simp (c .match .keys9)
+
+returns-10 : tie.Need-returns-10
+unfolding askedBy
+returns-10 c =
     let not = c .match .rest in
-    simp (ne-eqb _ _ (not .0 .0 .0 .0 .0 .0 .1), ne-eqb _ _ (not .0 .0 .0 .0 .0 .1), ne-eqb _ _ (not .0 .0 .0 .0 .1), ne-eqb _ _ (not .0 .0 .0 .1), ne-eqb _ _ (not .0 .0 .1), ne-eqb _ _ (not .0 .1), ne-eqb _ _ (not .1))
+    simp (ne-eqb _ _ (not .0 .0 .0 .0 .0 .0 .0 .0 .1), ne-eqb _ _ (not .0 .0 .0 .0 .0 .0 .0 .1), ne-eqb _ _ (not .0 .0 .0 .0 .0 .0 .1), ne-eqb _ _ (not .0 .0 .0 .0 .0 .1), ne-eqb _ _ (not .0 .0 .0 .0 .1), ne-eqb _ _ (not .0 .0 .0 .1), ne-eqb _ _ (not .0 .0 .1), ne-eqb _ _ (not .0 .1), ne-eqb _ _ (not .1))
 
 pub asked-by-spec : {M : Type 1} → statement M
-asked-by-spec = tie.close (tie.spec returns returns-2 returns-3 returns-4 returns-5 returns-6 returns-7 returns-8)
+asked-by-spec = tie.close (tie.spec returns returns-2 returns-3 returns-4 returns-5 returns-6 returns-7 returns-8 returns-9 returns-10)

@@ -35,10 +35,26 @@ returns-7 c =
     let d = c .before .before .before .pages .ensures in
     simp (c .of-pages .ensures, d .answer, d .bytes, c .before .before .before .before .before .enum-told7 .given .1) (refl, refl)
 
+returns-8 : tie.Need-returns-8
+returns-8 c =
+    let d = c .before .before .before .pack .ensures .done in
+    simp (c .of-packing .ensures, d .answer, d .bytes, c .before .before .before .before .before .enum-told8 .given .1) (refl, refl)
+
+returns-9 : tie.Need-returns-9
+returns-9 c =
+    let d = c .before .before .before .unpack .ensures .done in
+    simp (c .of-packing2 .ensures, d .answer, d .bytes, c .before .before .before .before .before .enum-told9 .given .1) (refl, refl)
+
 pub run-spec : {M : Type 1} → statement M
 run-spec =
     tie.close
     (tie.spec
+    (λ c. search needs)
+    (λ c κs. search needs)
+    (λ c κs. search needs)
+    (λ c. search needs)
+    (λ c κs. search needs)
+    (λ c κs. search needs)
     (λ c. search needs)
     (λ c κs. search needs)
     (λ c κs. search needs)
@@ -71,4 +87,8 @@ run-spec =
     (λ c. search needs)
     returns-6
     (λ c. search needs)
-    returns-7)
+    returns-7
+    (λ c. search needs)
+    returns-8
+    (λ c. search needs)
+    returns-9)
