@@ -18,9 +18,8 @@ use Rattle.cells.specs.declared.table.Class.the-variants.{NoCommand}
 use Rattle.cells.proofs.Cells.{drop-take}
 use Rattle.cells.proofs.Every.{at-any}
 use Rattle.cells.proofs.Facts.{by-test}
-use Rattle.packed.specs.Form.{promise, roleOf, dueBehind, rowFor, rowSize, size}
+use Rattle.packed.specs.Form.{Role, promise, roleOf, dueBehind, rowFor, rowSize, size}
 use Rattle.packed.specs.Reading.{Result, refused, ends, ifGood, andThen, empty, padded, known, cellCheck, readCell, finished, nextPosition, unpackFrom, unpacked}
-use Rattle.packed.specs.declared.form.Role.{Role}
 use Rattle.packed.proofs.Walk.{later, step-done, step-full, step-more}
 use Rattle.packed.proofs.Widths.{size-past, size-first, known-first}
 
