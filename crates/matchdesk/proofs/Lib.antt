@@ -4,7 +4,6 @@ pub mod Texts
 pub mod Replies
 pub mod Laid
 pub mod PackedTexts
-pub mod FirstBytes
 pub mod Longer
 pub mod Factors
 pub mod Answered

@@ -2,6 +2,7 @@
 use mathlib.Core.Path.{_≡_, sym, _∙_, ap}
 use mathlib.Core.List.{List}
 use Prim.Native.Nat.{ℕ, _<_}
+use native.Mathlib.Omega.{arith}
 use borrow.Author.Tests.{lt-leb}
 use lib.ListN.{length, take}
 use Rattle.cells.specs.Check.{maxImage}
@@ -12,6 +13,7 @@ use Rattle.image.specs.Image.{imageAnswer}
 use Rattle.image.specs.SiteCheck.{siteAnswer}
 use Rattle.packed.specs.Reading.{refused}
 use Rattle.packed.specs.Operations.{packResult, unpackResult}
+use Rattle.packed.proofs.FirstBytes.{first-bytes-decide}
 use Rattle.passes.specs.Passes.{passAnswer}
 use Rattle.passes.specs.declared.Pass.{Pass}
 use Rattle.passes.specs.declared.Pass.the-variants.{Both}
@@ -19,7 +21,6 @@ use Rattle.passes.specs.declared.Rewrite.the-variants.{Refused}
 use Rattle.passes.proofs.Checked.{check-long}
 use Rattle.matchdesk.specs.Program.{resultTexts, programTexts, LongInputs}
 use Rattle.matchdesk.specs.declared.Job.the-variants.{Rewrite as RewriteJob, Bytes, Check, Pages, Pack, Unpack}
-use Rattle.matchdesk.proofs.FirstBytes.{first-bytes}
 
 answer-long : (p : Pass) (image : List ℕ) → maxImage < length image → passAnswer p image maxImage ≡ Refused Length
 unfolding passAnswer
@@ -34,7 +35,7 @@ unfolding packResult imageAnswer
 pack-long image h = simp (lt-leb _ _ h)
 
 unpack-long : (s t : List ℕ) → take maxImage s ≡ take maxImage t → unpackResult s ≡ unpackResult t
-unpack-long s t e = sym (first-bytes s) ∙ ap unpackResult e ∙ first-bytes t
+unpack-long s t e = sym (first-bytes-decide s maxImage (omega arith)) ∙ ap unpackResult e ∙ first-bytes-decide t maxImage (omega arith)
 
 pub long-inputs : LongInputs
 unfolding programTexts
