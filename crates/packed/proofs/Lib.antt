@@ -7,3 +7,4 @@ pub mod Undo
 pub mod Promises
 pub mod Puts
 pub mod Turns
+pub mod Runs

@@ -1,28 +1,27 @@
--- One turn of each loop: the length kept, the bytes kept, the packed cells checked, the cells restored.
+-- One turn of each loop over all cells: the length kept, the bytes kept, the packed cells checked.
 use mathlib.Core.Path.{_≡_, refl, ap, ap₂, sym, _∙_}
 use mathlib.Core.List.{List, [], _∷_, _++_, append-assoc, append-nil}
 use mathlib.Core.Bool.{true, false}
-use Prim.Native.Nat.{ℕ, zero, suc, _+_, _-_, _*_, _/_, _≤_, _<_}
+use Prim.Native.Nat.{ℕ, suc, _+_, _-_, _*_, _/_, _≤_, _<_}
 use native.Mathlib.Numerals.{add-one}
 use native.Mathlib.Omega.{arith}
 use denote.Enum.Declared.{tagOf}
 use types.Run.{OneOf, miss}
 use lib.ListN.{length, getD, take, drop, length-append, length-take, length-drop, drop-of-length-le}
 use lib.Seq.{take-all, take-append-add, length-take-le, drop-cons, drop-drop}
-use Rattle.cells.specs.Cells.{Cell, cells, flat}
+use Rattle.cells.specs.Cells.{Cell, cells}
 use Rattle.cells.specs.declared.refusal.Refusal.the-variants.{Length}
-use Rattle.cells.proofs.Cells.{length-cells, length-flat, part-cell}
-use Rattle.packed.specs.Form.{Role, promise, roleOf, dueBehind, size, keep, packFrom, packed}
-use Rattle.packed.specs.Reading.{Result, bytes, refused, ends, andThen, finished, padded, nextCell, readCell, nextPosition, unpackFrom, unpacked}
-use Rattle.packed.specs.Steps.{NextCell, Room, counted, taken, putKept, putRestored}
+use Rattle.cells.proofs.Cells.{length-cells, part-cell}
+use Rattle.packed.specs.Form.{Role, promise, roleOf, size, keep, packFrom, packed}
+use Rattle.packed.specs.Reading.{Result, bytes, refused, ends, andThen, finished, nextCell, readCell, nextPosition, unpackFrom, unpacked}
+use Rattle.packed.specs.Steps.{NextCell, counted, taken, putKept}
 use Rattle.packed.specs.declared.form.Next.{Next}
 use Rattle.packed.specs.declared.Packing.{Packing}
 use Rattle.packed.proofs.Packing.{the-type}
 use Rattle.packed.specs.declared.Packing.the-variants.{Bytes, Refused, Ends}
-use Rattle.packed.proofs.Widths.{size-fits, keep-length, next-size, next-rest, next-back, due-kept, right-zeros, cell-length}
-use Rattle.packed.proofs.Walk.{Fine, cell-read, read-is, then-nil, then-then, later, step-done, step-full, step-more}
-use Rattle.packed.proofs.Puts.{put-start, put-length, restored-cell, restored-length, rest-is}
-use Rattle.packed.proofs.Images.{fine-full}
+use Rattle.packed.proofs.Widths.{size-fits, keep-length, cell-length}
+use Rattle.packed.proofs.Walk.{cell-read, then-nil, then-then, later, step-done, step-full, step-more}
+use Rattle.packed.proofs.Puts.{put-start, put-length, rest-is}
 
 -- ---- the image's cell at i, `&image[16 * i..16 * i + 16]`
 
@@ -232,100 +231,3 @@ module _ (s : List ℕ) (code events position at cell : ℕ) (g : Going s code e
           within = omega (arith, length-drop at s, g .within, w .fits);
           place = omega (arith, g .place, ep, next-most position (promise (r .code) (r .events)));
         }
-
--- ---- the cells restored
-
-pub record Restoring (s out : List ℕ) (code events at to : ℕ) : Type 0 where
-  -- the cells that are left
-  pub cs : List Cell
-  pub fine : Fine (promise code events) cs
-  pub packs : packFrom (promise code events) cs ≡ drop at s
-  pub says : unpacked s ≡ bytes (take to out ++ flat cs)
-  pub long : length out ≡ to + 16 * length cs
-  pub within : at ≤ length s
-
-pub restoring-none : (s out : List ℕ) → Room (unpacked s) (length out) → Restoring s out 0 0 0 0
-unfolding unpacked
-restoring-none s out m =
-    let r = read-is 4096 0 0 [] s (m .image) (m .is) in
-    record {
-      cs = r .cs;
-      fine = r .fine;
-      packs = r .packs;
-      says = m .is ∙ ap bytes (r .is);
-      long = omega (arith, m .long, ap length (r .is), length-flat (r .cs) (fine-full [] (r .cs) (r .fine)));
-      within = omega arith;
-    }
-
--- the next cell that is left, by the bytes that are
-pub record Left (s out : List ℕ) (code events at to : ℕ) : Type 0 where
-  pub c : Cell
-  pub cs : List Cell
-  pub full : length c ≡ 16
-  pub cell-is : nextCell (roleOf (promise code events)) (drop at s) ≡ c
-  pub fits : size (roleOf (promise code events)) (drop at s) ≤ length (drop at s)
-  pub due-is : dueBehind (promise code events) (drop at s) ≡ dueBehind (promise code events) c
-  pub rest-packs : packFrom (dueBehind (promise code events) c) cs ≡ drop (size (roleOf (promise code events)) (drop at s)) (drop at s)
-  pub fine : Fine (dueBehind (promise code events) c) cs
-  pub says : unpacked s ≡ bytes (take to out ++ (c ++ flat cs))
-  pub long : length out ≡ to + 16 + 16 * length cs
-
-left-by : (s out : List ℕ) (code events at to : ℕ) (cs : List Cell) → Fine (promise code events) cs → packFrom (promise code events) cs ≡ drop at s
-    → unpacked s ≡ bytes (take to out ++ flat cs) → length out ≡ to + 16 * length cs → to < length out → Left s out code events at to
-left-by s out code events at to [] f p u l h = absurd (omega arith)
-left-by s out code events at to (c ∷ cs) f p u l h =
-    let due = promise code events in
-    let role = roleOf due in
-    let t = packFrom (dueBehind due c) cs in
-    let z = right-zeros role 0 0 c (f .0 .1 0 0) in
-    let n = length-append (keep role c) t in
-    record {
-      c = c;
-      cs = cs;
-      full = f .0 .0;
-      cell-is = ap (nextCell role) (sym p) ∙ next-back role c (f .0 .0) t z;
-      fits = omega (arith, n, ap length p, keep-length role c (f .0 .0), next-size role c (f .0 .0) t, ap (size role) p);
-      due-is = ap (dueBehind due) (sym p) ∙ due-kept due c t (f .0 .0);
-      rest-packs = sym (next-rest role c (f .0 .0) t) ∙ ap (λ (x : List ℕ). drop (size role x) x) p;
-      fine = f .1;
-      says = u;
-      long = omega arith;
-    }
-
-module _ (s out : List ℕ) (code events at to : ℕ) (k : Restoring s out code events at to) where
-  pub restoring-left : to < length out → Left s out code events at to
-  restoring-left h = left-by s out code events at to (k .cs) (k .fine) (k .packs) (k .says) (k .long) h
-
-  pub restoring-next : (r : Next) (part : List ℕ) → to < length out → NextCell code events (drop at s) r → part ≡ putRestored (drop at s) (r .size) (take (length out - to) (drop to out))
-      → (length (take to out ++ (part ++ drop (length out - to) (drop to out))) ≡ length out)
-      × Restoring s (take to out ++ (part ++ drop (length out - to) (drop to out))) (r .code) (r .events) (at + r .size) (to + 16)
-  restoring-next r part h n e =
-      let due = promise code events in
-      let role = roleOf due in
-      let w = restoring-left h in
-      let there : r .size ≤ length (drop at s) = omega (arith, n .keeps, w .fits) in
-      let few : r .size ≤ 16 = omega (arith, n .keeps, size-fits role (drop at s)) in
-      let room : 16 ≤ length (drop to out) = omega (arith, length-drop to out, w .long) in
-      let p : part ≡ putRestored (drop at s) (r .size) (drop to out) = e ∙ ap (putRestored (drop at s) (r .size)) (rest-is out to) in
-      let l : length part ≡ length (drop to out) = ap length p ∙ restored-length (drop at s) (r .size) (drop to out) there few room in
-      let b : take 16 part ≡ w .c =
-      ap (take 16) p ∙ restored-cell (drop at s) (r .size) (drop to out) there few room ∙ ap (λ (j : ℕ). padded (take j (drop at s))) (n .keeps) ∙ w .cell-is in
-      let q = put-part out part (w .c) to 16 (omega (arith, w .long)) l (omega arith) b in
-      let d : promise (r .code) (r .events) ≡ dueBehind due (w .c) = n .due ∙ w .due-is in (
-        q .same,
-        record {
-          cs = w .cs;
-          fine = rw d (w .fine);
-          packs = ap (λ (x : List Role). packFrom x (w .cs)) d ∙ w .rest-packs ∙ ap (λ (j : ℕ). drop j (drop at s)) (sym (n .keeps)) ∙ drop-drop (r .size) at s;
-          says = w .says ∙ ap bytes (sym (append-assoc (take to out) (w .c) (flat (w .cs))) ∙ ap (λ (t : List ℕ). t ++ flat (w .cs)) (sym (q .start)));
-          long = omega (arith, q .same, w .long);
-          within = omega (arith, length-drop at s, k .within, there);
-        },
-      )
-
-  pub restoring-end : length out ≤ to → unpacked s ≡ bytes out
-  restoring-end h = none-left (k .cs) (k .says) (k .long)
-    where
-      none-left : (cs : List Cell) → unpacked s ≡ bytes (take to out ++ flat cs) → length out ≡ to + 16 * length cs → unpacked s ≡ bytes out
-      none-left [] u l = u ∙ ap bytes (append-nil (take to out) ∙ take-all to out h)
-      none-left (c ∷ cs) u l = absurd (omega arith)

@@ -9,7 +9,7 @@ use native.Mathlib.Omega.{arith}
 use borrow.Author.Tests.{lt-ltb, le-leb, lt-leb, ltb-true, ltb-false, eqb-true}
 use lib.Dec.{eqb, ltb, leb, leb→le}
 use lib.ListN.{length, getD, take, drop, replicate, length-append, length-drop, length-replicate, take-append-drop, drop-of-length-le, List·getD-eq-default, List·getD-append}
-use lib.Seq.{length-take-le, getD-take, take-at, drop-at, take-all}
+use lib.Seq.{length-take-le, getD-take, getD-drop, take-at, drop-at, take-all}
 use Rattle.cells.specs.Answers.{unless}
 use Rattle.cells.specs.Bytes.{byte, half, word, zeros}
 use Rattle.cells.specs.Cells.{Cell}
@@ -71,6 +71,10 @@ size-fits r s =
 pub head-size : (s : List ℕ) → size Head s ≡ 7
 unfolding rowSize rows
 head-size s = refl
+
+pub event-size : (s : List ℕ) → size Event s ≡ 15
+unfolding rowSize rows
+event-size s = refl
 
 -- the first byte decides
 pub size-first : (r : Role) (s t : List ℕ) → byte s 0 ≡ byte t 0 → size r s ≡ size r t
@@ -184,6 +188,10 @@ zeros-are (b ∷ s) z =
 
 pub first-take : (n : ℕ) (s : List ℕ) → 1 ≤ n → byte (take n s) 0 ≡ byte s 0
 first-take n s h = getD-take n s 0 0 h
+
+-- the first byte that is left
+pub first-left : (s : List ℕ) (at : ℕ) → byte (drop at s) 0 ≡ byte s at
+first-left s at = getD-drop at s 0 0 ∙ ap (byte s) (add-zero at)
 
 module _ (r : Role) (c : Cell) (full : length c ≡ 16) where
   pub keep-length : length (keep r c) ≡ size r c

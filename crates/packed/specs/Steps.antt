@@ -1,14 +1,14 @@
 -- Inner: what the functions inside the two operations say.
-use Prim.Native.Nat.{ℕ, _+_}
+use Prim.Native.Nat.{ℕ, zero, suc, _+_}
 use mathlib.Core.Path.{_≡_}
-use mathlib.Core.List.{List, _++_, map}
+use mathlib.Core.List.{List, [], _++_, map}
 use mathlib.Core.Bool.{cond}
 use lib.Dec.{ltb}
-use lib.ListN.{length, take, replicate}
+use lib.ListN.{length, take, drop, replicate}
 use Rattle.cells.specs.Cells.{Cell, over}
 use Rattle.cells.specs.Table.{Row, rows, total}
 use Rattle.packed.specs.Form.{Role, promise, roleOf, dueBehind, size}
-use Rattle.packed.specs.Reading.{Result, bytes, refused, ends, padded, readCell}
+use Rattle.packed.specs.Reading.{Result, bytes, refused, ends, padded, nextCell, readCell}
 use Rattle.packed.specs.declared.form.Next.{Next}
 use Rattle.packed.specs.declared.Packing.{Packing}
 use Rattle.packed.specs.declared.Packing.the-variants.{Bytes, Refused, Ends}
@@ -52,6 +52,15 @@ pub record Room (t : Result) (n : ℕ) : Type 0 where
   pub image : List ℕ
   pub is : t ≡ bytes image
   pub long : n ≡ length image
+
+-- n cells of a role at the start of s, and how many bytes they take
+abbrev pub cellsOf : Role → ℕ → List ℕ → List ℕ
+cellsOf r zero s = []
+cellsOf r (suc n) s = nextCell r s ++ cellsOf r n (drop (size r s) s)
+
+abbrev pub sizesOf : Role → ℕ → List ℕ → ℕ
+sizesOf r zero s = 0
+sizesOf r (suc n) s = size r s + sizesOf r n (drop (size r s) s)
 
 -- a cell over the start of an output; and where there are 16 bytes to copy, and room for the next cell, zeros over the start of that
 abbrev pub putRestored : List ℕ → ℕ → List ℕ → List ℕ

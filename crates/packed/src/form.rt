@@ -4,7 +4,7 @@ use cells::table;
 ghost use mathlib.Core.Path.{_≡_};
 ghost use Prim.Native.Nat.{_≤_, _<_};
 ghost use lib.ListN.{length};
-ghost use Rattle.packed.specs.Form.{promise, roleOf, rowFor, rowSize, size as «sizeOf»};
+ghost use Rattle.packed.specs.Form.{promise, roleOf, rowSize, size as «sizeOf»};
 ghost use Rattle.packed.specs.Steps.{sizeTable, NextCell};
 
 // The next cell: how many bytes it keeps, and how many instruction cells and event cells are promised behind it.
@@ -18,6 +18,11 @@ pub struct Next {
 pub const ROWS: usize = 84;
 
 pub const HEAD_ROW: usize = 0x53;
+
+// What a head and an event keep.
+pub const HEAD_SIZE: usize = 7;
+
+pub const EVENT_SIZE: usize = 15;
 
 // How many bytes a cell of each row keeps: its first byte and its operands'. (Set up once an image, and handed on.)
 pub fn sizes() -> [u8; ROWS]
@@ -125,30 +130,16 @@ pub fn next_cell(sizes: &[u8], code: usize, events: usize, s: &[u8]) -> Next
     }
     if events != 0 {
         return Next {
-            size: size_at(sizes, table::EVENT_ROW),
+            size: EVENT_SIZE,
             code,
             events: events - 1,
         };
     }
     Next {
-        size: size_at(sizes, HEAD_ROW),
+        size: HEAD_SIZE,
         code: read::half(s, 3),
         events: read::half(s, 5),
     }
-}
-
-// The row of the cell at the start of s, where so many instruction cells and event cells are promised.
-pub fn row_of(code: usize, events: usize, s: &[u8]) -> usize
-    requires { ⌜ 0 < length (now s) ⌝ }
-    ensures { λ r. ⌜ r ≡ rowFor (roleOf (promise code events)) (now (s .entry)) ⌝ }
-{
-    if code != 0 {
-        return read::wide(s[0]);
-    }
-    if events != 0 {
-        return table::EVENT_ROW;
-    }
-    HEAD_ROW
 }
 
 // How many bytes a cell of a row keeps, if one of the row before keeps so many. (Where the rows are the same, nothing waits for the table.)

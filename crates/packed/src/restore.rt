@@ -1,6 +1,8 @@
 // Unpacking: the cells of a packed form one after another. The first fault decides.
 use crate::Packing;
 use crate::form;
+use crate::form::EVENT_SIZE;
+use crate::form::HEAD_SIZE;
 use cells::check;
 use cells::check::MAX_IMAGE;
 use cells::read;
@@ -9,12 +11,12 @@ use cells::refusal::Checked;
 use cells::refusal::Refusal;
 use cells::table;
 ghost use mathlib.Core.Path.{_≡_};
-ghost use Prim.Native.Nat.{_≤_, _<_};
+ghost use Prim.Native.Nat.{_*_, _≤_, _<_};
 ghost use lib.ListN.{length};
 ghost use Rattle.cells.specs.Cells.{over};
 ghost use Rattle.packed.specs.Form.{Head, Code, Event, promise, roleOf};
 ghost use Rattle.packed.specs.Reading.{bytes, padded, finished as «finishedOf», nextPosition, unpacked};
-ghost use Rattle.packed.specs.Steps.{sizeTable, counted, takenAs, Room, putRestored};
+ghost use Rattle.packed.specs.Steps.{sizeTable, counted, takenAs, Room, cellsOf, sizesOf, putRestored};
 
 // Cells of the longest image.
 const MAX_CELLS: usize = MAX_IMAGE / CELL;
@@ -101,9 +103,9 @@ fn check_next(
         return check_instruction(sizes, s, position, cell);
     }
     if events != 0 {
-        return check_event(sizes, s, position, cell);
+        return check_event(s, position, cell);
     }
-    check_head(sizes, s, position, cell)
+    check_head(s, position, cell)
 }
 
 // An instruction cell: 3, 32, then 4.
@@ -129,62 +131,95 @@ fn check_instruction(sizes: &[u8], s: &[u8], position: usize, cell: usize) -> Pa
 }
 
 // An event cell: 3, 32, then 4.
-fn check_event(sizes: &[u8], s: &[u8], position: usize, cell: usize) -> Packing
-    requires { ⌜ (now sizes ≡ sizeTable) × (0 < length (now s)) ⌝ }
+fn check_event(s: &[u8], position: usize, cell: usize) -> Packing
+    requires { ⌜ 0 < length (now s) ⌝ }
     ensures { λ r. ⌜ r ≡ takenAs Event position cell (now (s .entry)) ⌝ }
 {
     if LAST_KIND < s[0] {
         return Packing::Refused(Refusal::UnknownCommand(position, cell));
     }
-    let k = form::size_at(sizes, table::EVENT_ROW);
-    if s.len() < k {
+    if s.len() < EVENT_SIZE {
         return Packing::Ends(position, cell);
     }
-    if !check::operands_ok(&s[..k], table::EVENT_ROW) {
+    if !check::operands_ok(&s[..EVENT_SIZE], table::EVENT_ROW) {
         return Packing::Refused(Refusal::Operand(position, cell));
     }
-    Packing::Bytes(k)
+    Packing::Bytes(EVENT_SIZE)
 }
 
 // A head: 32, then 2. What it promises is held to the limits alone; its operands are any numbers.
-fn check_head(sizes: &[u8], s: &[u8], position: usize, cell: usize) -> Packing
-    requires { ⌜ (now sizes ≡ sizeTable) × (0 < length (now s)) ⌝ }
+fn check_head(s: &[u8], position: usize, cell: usize) -> Packing
+    requires { ⌜ 0 < length (now s) ⌝ }
     ensures { λ r. ⌜ r ≡ takenAs Head position cell (now (s .entry)) ⌝ }
 {
-    let k = form::size_at(sizes, form::HEAD_ROW);
-    if s.len() < k {
+    if s.len() < HEAD_SIZE {
         return Packing::Ends(position, cell);
     }
     let promised = read::half(s, 3) + read::half(s, 5);
-    let checked = check::check_head(&s[..k], position, cell, promised);
+    let checked = check::check_head(&s[..HEAD_SIZE], position, cell, promised);
     if let Checked::Refused(x) = checked {
         return Packing::Refused(x);
     }
-    Packing::Bytes(k)
+    Packing::Bytes(HEAD_SIZE)
 }
 
-// The cells of a packed form that is known good, into an output that has just the room for them.
+// The cells of a packed form that is known good, into an output that has just the room for them: of each function the head, the instructions
+// and the events.
 pub fn restore_cells(sizes: &[u8], packed: &[u8], out: &mut [u8])
     requires { ⌜ (now sizes ≡ sizeTable) × Room (unpacked (now packed)) (length (now out)) ⌝ }
     ensures { λ _. ⌜ unpacked (now (packed .entry)) ≡ bytes (now (out .exit)) ⌝ }
 {
-    let mut code = 0;
-    let mut events = 0;
-    let mut row = form::HEAD_ROW;
-    let mut size = form::size_at(sizes, row);
     let mut at = 0;
     let mut to = 0;
     while to < out.len() {
-        let before = row;
-        row = form::row_of(code, events, &packed[at..]);
-        size = form::size_again(sizes, row, before, size);
-        let next = form::next_cell(sizes, code, events, &packed[at..]);
-        put_restored(&packed[at..], size, &mut out[to..]);
-        code = next.code;
-        events = next.events;
-        at += size;
-        to += CELL;
+        put_restored(&packed[at..], HEAD_SIZE, &mut out[to..]);
+        let code = read::half(&packed[at..], 3);
+        let events = read::half(&packed[at..], 5);
+        let first = to + CELL;
+        let second = first + CELL * code;
+        let end = second + CELL * events;
+        at += HEAD_SIZE;
+        at += restore_code(sizes, &packed[at..], code, &mut out[first..second]);
+        at += restore_events(&packed[at..], events, &mut out[second..end]);
+        to = end;
     }
+}
+
+// The n instruction cells at the start of s, into an output that has just the room for them; the answer is how many bytes of s they take.
+fn restore_code(sizes: &[u8], s: &[u8], n: usize, out: &mut [u8]) -> usize
+    requires { ⌜ (now sizes ≡ sizeTable) × (sizesOf Code n (now s) ≤ length (now s)) × (length (now out) ≡ 16 * n) ⌝ }
+    ensures { λ r. ⌜ (now (out .exit) ≡ cellsOf Code n (now (s .entry))) × (r ≡ sizesOf Code n (now (s .entry))) ⌝ }
+{
+    let mut row = form::HEAD_ROW;
+    let mut size = HEAD_SIZE;
+    let mut at = 0;
+    let mut i = 0;
+    while i < n {
+        let to = CELL * i;
+        let before = row;
+        row = read::wide(s[at]);
+        size = form::size_again(sizes, row, before, size);
+        put_restored(&s[at..], size, &mut out[to..]);
+        at += size;
+        i += 1;
+    }
+    at
+}
+
+// The n event cells at the start of s, as the instruction cells.
+fn restore_events(s: &[u8], n: usize, out: &mut [u8]) -> usize
+    requires { ⌜ (sizesOf Event n (now s) ≤ length (now s)) × (length (now out) ≡ 16 * n) ⌝ }
+    ensures { λ r. ⌜ (now (out .exit) ≡ cellsOf Event n (now (s .entry))) × (r ≡ sizesOf Event n (now (s .entry))) ⌝ }
+{
+    let mut at = 0;
+    let mut i = 0;
+    while i < n {
+        let to = CELL * i;
+        put_restored(&s[at..], EVENT_SIZE, &mut out[to..]);
+        at += EVENT_SIZE;
+        i += 1;
+    }
+    at
 }
 
 // The cell that keeps the first k bytes of s, over the start of an output. Where both have the bytes for it, 16 bytes are copied, and 16 zeros

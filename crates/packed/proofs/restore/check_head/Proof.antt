@@ -16,53 +16,49 @@ use Rattle.packed.proofs.restore.check_head.Tie as tie
 
 returns : tie.Need-returns
 returns c =
-    let a = c .before .before .before .before in
-    taken-cut Head (a .args .position) (a .args .cell) (now (a .args .s)) (a .pre .1) refl (omega (arith, c .before .size-at .ensures, c .if1 .taken))
-
-there : (c : tie.Else1) → 7 ≤ length (now (c .before .before .before .before .args .s))
-there c = omega (arith, c .if1 .left, c .before .size-at .ensures, head-size (now (c .before .before .before .before .args .s)))
+    let a = c .before .before in
+    taken-cut Head (a .args .position) (a .args .cell) (now (a .args .s)) (a .pre) refl (omega (arith, head-size (now (a .args .s)), c .if1 .taken))
 
 half-requires : tie.Need-half-requires
-half-requires c κs = omega (arith, there c)
+half-requires c κs = omega (arith, c .if1 .left)
 
 half-requires-2 : tie.Need-half-requires-2
-half-requires-2 c κs = there (c .before)
+half-requires-2 c κs = c .before .if1 .left
 
 check-head-requires : tie.Need-check-head-requires
-check-head-requires c κs = omega (arith, length-take-le (c .before .before .before .before .size-at .result) (now (c .before .before .before .before .before .before .before .args .s)) (c .before .before .before .if1 .left), c .before .before .before .before .size-at .ensures, head-size (now (c .before .before .before .before .before .before .before .args .s)))
+check-head-requires c κs = omega (arith, length-take-le 7 (now (c .before .before .before .before .before .args .s)) (c .before .before .before .if1 .left))
 
 -- the check of the cell is that of its bytes
-checked : (c : tie.After-check-head-arg) → cellCheck Head (c .before .before .before .before .before .before .before .args .position) (c .before .before .before .before .before .before .before .args .cell) (nextCell Head (now (c .before .before .before .before .before .before .before .args .s)))
-    ≡ headCheck (c .before .before .before .before .before .before .before .args .position) (c .before .before .before .before .before .before .before .args .cell) (c .before .before .half .result + c .before .half2 .result) (take (c .before .before .before .before .size-at .result) (now (c .before .before .before .before .before .before .before .args .s)))
+checked : (c : tie.After-check-head-arg) → cellCheck Head (c .before .before .before .before .before .args .position) (c .before .before .before .before .before .args .cell) (nextCell Head (now (c .before .before .before .before .before .args .s)))
+    ≡ headCheck (c .before .before .before .before .before .args .position) (c .before .before .before .before .before .args .cell) (c .before .before .half .result + c .before .half2 .result) (take 7 (now (c .before .before .before .before .before .args .s)))
 checked c =
-    head-taken (c .before .before .before .before .before .before .before .args .position) (c .before .before .before .before .before .before .before .args .cell) (now (c .before .before .before .before .before .before .before .args .s)) (c .before .before .before .before .size-at .result) (c .before .before .before .if1 .left) _ (c .before .before .before .before .size-at .ensures)
-    (ap₂ (λ (x y : ℕ). x + y) (c .before .before .half .ensures .0) (c .before .half2 .ensures .0))
+    let a = c .before .before .before .before .before .args in
+    head-taken (a .position) (a .cell) (now (a .s)) 7 (c .before .before .before .if1 .left) _ (sym (head-size (now (a .s)))) (ap₂ (λ (x y : ℕ). x + y) (c .before .before .half .ensures .0) (c .before .half2 .ensures .0))
 
-fits : (c : tie.After-check-head-arg) → size Head (now (c .before .before .before .before .before .before .before .args .s)) ≤ length (now (c .before .before .before .before .before .before .before .args .s))
-fits c = omega (arith, c .before .before .before .before .size-at .ensures, c .before .before .before .if1 .left)
+fits : (c : tie.After-check-head-arg) → size Head (now (c .before .before .before .before .before .args .s)) ≤ length (now (c .before .before .before .before .before .args .s))
+fits c = omega (arith, head-size (now (c .before .before .before .before .before .args .s)), c .before .before .before .if1 .left)
 
 returns-2 : tie.Need-returns-2
 returns-2 c =
-    let a = c .before .before .before .before .before .before .before .before .before .before .before .args in
+    let a = c .before .before .before .before .before .before .before .before .before .args in
     let k = c .before .before .before .before in
     taken-refused Head (a .position) (a .cell) (now (a .s)) refl (fits k) _ (checked k ∙ sym (c .before .before .before .check-head .ensures) ∙ c .before .checked .given .1)
 
 returns-3 : tie.Need-returns-3
 returns-3 c =
-    let a = c .before .before .before .before .before .before .before .before .before .before .args in
+    let a = c .before .before .before .before .before .before .before .before .args in
     let k = c .before .before .before in
-    taken-good Head (a .position) (a .cell) (now (a .s)) refl (fits k) _ (k .before .before .before .before .size-at .ensures) (checked k ∙ sym (c .before .before .check-head .ensures) ∙ c .enum-told .given .1)
+    taken-good Head (a .position) (a .cell) (now (a .s)) refl (fits k) 7 (sym (head-size (now (a .s)))) (checked k ∙ sym (c .before .before .check-head .ensures) ∙ c .enum-told .given .1)
 
 pub check-head-spec : {M : Type 1} → statement M
 check-head-spec =
     tie.close
     (tie.spec
-    (λ c κs. search needs)
     returns
     half-requires
     half-requires-2
     (λ c. search needs)
-    (λ c. sym (length-take-le (c .before .before .before .before .size-at .result) _ (c .before .before .before .if1 .left)))
+    (λ c. sym (length-take-le 7 (now (c .before .before .before .before .before .args .s)) (c .before .before .before .if1 .left)))
     check-head-requires
     (λ c. search needs)
     returns-2
