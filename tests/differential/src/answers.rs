@@ -101,6 +101,9 @@ pub trait Operations: Sync {
     fn fuller(&self, image: &[u8], out: &mut [u8]) -> Rewritten;
     /// Document 02's pages, which the Rust doesn't have.
     fn pages(&self, image: &[u8], out: &mut [u8]) -> Reply;
+    /// Document 02's packed form of an image, and the image of a packed form.
+    fn pack(&self, image: &[u8], out: &mut [u8]) -> Reply;
+    fn unpack(&self, packed: &[u8], out: &mut [u8]) -> Reply;
     /// Document 02's factor that gives a wanted value: the number of the answer.
     fn factor(&self, leaf: Leaf, wanted: i32, factor: i32, other: &mut i32) -> usize;
 

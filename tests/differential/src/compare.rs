@@ -10,6 +10,7 @@ use crate::leaves::{self, Const};
 use crate::legacy_lowering::byte;
 use crate::model;
 use crate::original::{self, Answers};
+use crate::packed;
 use crate::pages;
 use crate::table;
 use std::collections::HashMap;
@@ -33,6 +34,8 @@ pub struct Expected {
     pub(crate) fuller: Option<(Vec<u8>, Success)>,
     /// Its pages by the model, where it passes the site check: the original has none.
     pub(crate) pages: Option<Vec<u8>>,
+    /// Its packed form by the model, where it passes the image check: the original has none.
+    pub(crate) packed: Option<Vec<u8>>,
 }
 
 pub(crate) fn difference(
@@ -68,7 +71,14 @@ pub fn expected(image: &[u8]) -> Result<Expected, Difference> {
     let image_check = model::image_check(image);
     let site_check = model::site_check(image);
     if image_check.is_err() {
-        return Ok(Expected { image_check, site_check, original: None, fuller: None, pages: None });
+        return Ok(Expected {
+            image_check,
+            site_check,
+            original: None,
+            fuller: None,
+            pages: None,
+            packed: None,
+        });
     }
     let original = ask_original(image)?;
     let fuller = site_check.is_ok().then(|| {
@@ -77,7 +87,8 @@ pub fn expected(image: &[u8]) -> Result<Expected, Difference> {
         (bytes, Success { length, num_rewrites, changed: num_rewrites > 0 })
     });
     let pages = site_check.is_ok().then(|| pages::pages(image));
-    let expected = Expected { image_check, site_check, original: Some(original), fuller, pages };
+    let (original, packed) = (Some(original), Some(packed::pack(image)));
+    let expected = Expected { image_check, site_check, original, fuller, pages, packed };
     let original = expected.original.as_ref().unwrap();
 
     // The original refuses exactly if the site check does, and as it may.
@@ -152,7 +163,7 @@ impl Expected {
         difference(what, expected, checked_text(other))
     }
 
-    /// Compares all operations but the pages; `out` is as it was before each.
+    /// Compares all operations but the pages and the packed form; `out` is as it was before each.
     pub fn check(
         &self,
         subject: &dyn Operations,
@@ -255,14 +266,39 @@ impl Expected {
         image: &[u8],
         around: &[u8],
     ) -> Result<(), Difference> {
-        let lent = GUARD..around.len() - GUARD;
-        let (expected, pages) = self.pages(lent.len());
-        let mut buffer = around.to_vec();
-        let reply = subject.pages(image, &mut buffer[lent]);
-        if reply != expected {
-            return difference("Pages, answer", expected.to_string(), reply.to_string());
+        check_written(&PAGES, around, |lent| self.pages(lent), |out| subject.pages(image, out))
+    }
+
+    /// The packed form, where the image passes the image check.
+    pub fn packed(&self) -> Option<&[u8]> {
+        self.packed.as_deref()
+    }
+
+    /// The length of the packed form, or of a refused image its own.
+    pub fn packed_length(&self, image: &[u8]) -> usize {
+        self.packed().map_or(image.len(), <[u8]>::len)
+    }
+
+    /// The answer of packing for a lent output of some length, and what is written.
+    pub fn pack(&self, lent: usize) -> (Reply, &[u8]) {
+        match (self.packed(), self.image_check) {
+            (_, Err(refusal)) => (refusal.into(), &[]),
+            // Where the image check accepts, there is a packed form.
+            (packed, Ok(())) => match packed.unwrap() {
+                packed if lent < packed.len() => (packed::TOO_SHORT, &[]),
+                packed => (Reply { number: 0, first: packed.len(), second: 0 }, packed),
+            },
         }
-        check_lent(pages, around, &buffer)
+    }
+
+    /// Compares the packed form. What is lent is what `around` has between its guards.
+    pub fn check_pack(
+        &self,
+        subject: &dyn Operations,
+        image: &[u8],
+        around: &[u8],
+    ) -> Result<(), Difference> {
+        check_written(&PACKED, around, |lent| self.pack(lent), |out| subject.pack(image, out))
     }
 
     /// Holds an answer to the fuller rewrite against the original alone, whatever the commands that
@@ -315,21 +351,61 @@ impl Expected {
 /// Bytes before and behind a lent buffer that nobody may write.
 pub const GUARD: usize = 16;
 
-/// A lent buffer has the pages at its start, and every other byte is as it was, the guards too.
-pub fn check_lent(pages: &[u8], before: &[u8], after: &[u8]) -> Result<(), Difference> {
-    let end = GUARD + pages.len();
-    if after[GUARD..end] != *pages {
-        let lines = pages.chunks(pages::LINE).zip(after[GUARD..end].chunks(pages::LINE));
-        let (at, (line, got)) = lines.enumerate().find(|(_, (line, got))| line != got).unwrap();
-        let text = |line| format!("line {at} is {:?}", String::from_utf8_lossy(line));
-        return difference("Pages, bytes written", text(line), text(got));
+/// What is written to a lent buffer: its name, and a part in which a difference is shown.
+pub struct Written {
+    name: &'static str,
+    part: usize,
+    text: fn(&[u8]) -> String,
+}
+
+pub const PAGES: Written = Written {
+    name: "Pages",
+    part: pages::LINE,
+    text: |line| format!("{:?}", String::from_utf8_lossy(line)),
+};
+pub const PACKED: Written = Written { name: "Pack", part: cells::CELL, text: hexadecimal };
+pub const UNPACKED: Written = Written { name: "Unpack", part: cells::CELL, text: hexadecimal };
+
+/// Compares an answer and every byte of what is lent, which is what `around` has between its
+/// guards; it is as it was before the call.
+pub fn check_written<'a>(
+    written: &Written,
+    around: &[u8],
+    expected: impl FnOnce(usize) -> (Reply, &'a [u8]),
+    call: impl FnOnce(&mut [u8]) -> Reply,
+) -> Result<(), Difference> {
+    let lent = GUARD..around.len() - GUARD;
+    let (expected, bytes) = expected(lent.len());
+    let mut buffer = around.to_vec();
+    let reply = call(&mut buffer[lent]);
+    if reply != expected {
+        let what = format!("{}, answer", written.name);
+        return difference(what, expected.to_string(), reply.to_string());
+    }
+    check_lent(written, bytes, around, &buffer)
+}
+
+/// A lent buffer has these bytes at its start, and every other byte is as it was, the guards too.
+pub fn check_lent(
+    written: &Written,
+    bytes: &[u8],
+    before: &[u8],
+    after: &[u8],
+) -> Result<(), Difference> {
+    let Written { name, part, text } = written;
+    let end = GUARD + bytes.len();
+    if after[GUARD..end] != *bytes {
+        let parts = bytes.chunks(*part).zip(after[GUARD..end].chunks(*part));
+        let (at, (part, got)) = parts.enumerate().find(|(_, (part, got))| part != got).unwrap();
+        let text = |part| format!("part {at} is {}", text(part));
+        return difference(format!("{name}, bytes written"), text(part), text(got));
     }
     if after[..GUARD] != before[..GUARD] || after[end..] != before[end..] {
         let others = (0..GUARD).chain(end..before.len());
         let at = others.into_iter().find(|&at| after[at] != before[at]).unwrap();
         let place = at as isize - end as isize;
-        let text = |byte| format!("byte {place} past the pages is {byte:02X}");
-        return difference("Pages, other bytes", text(before[at]), text(after[at]));
+        let text = |byte| format!("byte {place} past what is written is {byte:02X}");
+        return difference(format!("{name}, other bytes"), text(before[at]), text(after[at]));
     }
     Ok(())
 }

@@ -4,12 +4,14 @@ use crate::answers::{Operation, Operations};
 use crate::cells;
 use crate::compare::{hexadecimal, Difference, GUARD};
 use crate::factors::{self, Leaf, LEAVES, TURNS};
+use crate::forms::{self, Forms};
 use crate::generate::{self, Exhaustive, Pairs, NO_OUTPUT};
 use crate::joined::{self, Part};
+use crate::packed::{self, Unpacking, FAULTS};
 use crate::pages::{self, SHAPES};
 use crate::random::{mix, Random};
 use crate::runs::{self, Outside};
-use crate::shrink::shrink;
+use crate::shrink::{shrink, shrink_by};
 use std::sync::atomic::{AtomicBool, Ordering};
 use std::sync::Mutex;
 use std::time::{Duration, Instant};
@@ -28,6 +30,45 @@ pub struct Count {
     pub comparisons: u64,
     /// An image counts once for each subject and each length of the buffer lent for its pages.
     pub pages: u64,
+    /// An image or a packed form counts once for each subject and each length of the output lent for
+    /// the other.
+    pub packed: u64,
+}
+
+/// What occurred in the packed forms that were compared.
+#[derive(Debug)]
+pub struct Packing {
+    /// How often each number was the answer, for each image or form and each length of the output.
+    pub packed: [u64; 33],
+    pub unpacked: [u64; 33],
+    /// Forms, and those that are refused by what is wrong with them.
+    pub forms: u64,
+    pub faults: [u64; FAULTS.len()],
+}
+
+impl Default for Packing {
+    fn default() -> Packing {
+        Packing { packed: [0; 33], unpacked: [0; 33], forms: 0, faults: [0; FAULTS.len()] }
+    }
+}
+
+impl Packing {
+    fn count(&mut self, unpacking: &Unpacking) {
+        self.forms += 1;
+        if let Err(refused) = unpacking.answer {
+            let at = FAULTS.iter().position(|(_, fault)| *fault == refused.fault).unwrap();
+            self.faults[at] += 1;
+        }
+    }
+
+    fn add(&mut self, other: &Packing) {
+        let sums = self.packed.iter_mut().chain(&mut self.unpacked).chain(&mut self.faults);
+        let counts = other.packed.iter().chain(&other.unpacked).chain(&other.faults);
+        for (sum, count) in sums.zip(counts) {
+            *sum += count;
+        }
+        self.forms += other.forms;
+    }
 }
 
 /// What occurred in the factors that were compared.
@@ -84,12 +125,16 @@ impl Occurred {
     }
 }
 
-/// What was lent: an output, or a buffer for the pages; its length, less the image's or the joined
-/// one's, or less the pages'; or a number for a factor.
+/// What was lent: an output, or a buffer for the pages, for the packed form or for what is unpacked;
+/// its length, less the image's or the joined one's, or less that of what is written; or a number for
+/// a factor. Or a law, with the place at which it ends a packed form.
 #[derive(Debug, Clone, Copy, PartialEq, Eq)]
 pub enum Lent {
     Output(isize),
     Pages(isize),
+    Packed(isize),
+    Unpacked(isize),
+    Law(usize),
     Number,
 }
 
@@ -97,7 +142,7 @@ pub enum Lent {
 pub struct Found {
     pub group: &'static str,
     pub subject: &'static str,
-    /// The image, or the two that are joined; none for a factor.
+    /// The image, or the two that are joined; the packed form; none for a factor.
     pub images: Vec<Vec<u8>>,
     pub lent: Lent,
     pub difference: Difference,
@@ -110,6 +155,7 @@ struct Worker<'a> {
     /// How often each refusal number was the answer.
     refusals: [u64; 27],
     occurred: Occurred,
+    packing: Packing,
     factors: Factors,
     runs: u64,
     entries: u64,
@@ -160,6 +206,7 @@ impl Worker<'_> {
         }
         let buffers = two_buffers(&mut self.random, expected.pages_length(image));
         self.pages(group, part, images, &buffers);
+        self.packed(group, part, images);
         self.occurred.count(part);
         if let Err(refusal) = expected.site_check() {
             self.refusals[refusal.number as usize] += 1;
@@ -189,6 +236,77 @@ impl Worker<'_> {
         }
         let comparisons = (more.len() * self.subjects.len()) as u64;
         count_of(&mut self.counts, group).pages += comparisons;
+    }
+
+    /// Compares the packed form of an image, which is one or two joined, in outputs of four lengths;
+    /// and what is unpacked from it, in two, and from a damaged one.
+    fn packed(&mut self, group: &'static str, part: &Part, images: &[&[u8]]) {
+        let Part { image, expected } = part;
+        let lengths = four_outputs(&mut self.random);
+        let around = dirty(&mut self.random, expected.packed_length(image) + LONGER + 2 * GUARD);
+        for more in lengths {
+            let length = expected.packed_length(image).saturating_add_signed(more);
+            let around = &around[..length + 2 * GUARD];
+            for subject in self.subjects {
+                if let Err(difference) = expected.check_pack(*subject, image, around) {
+                    let lent = Lent::Packed(more);
+                    return self.found(group, subject.name(), images, lent, difference);
+                }
+            }
+            self.packing.packed[expected.pack(length).0.number] += 1;
+        }
+        count_of(&mut self.counts, group).packed += (lengths.len() * self.subjects.len()) as u64;
+        // The laws of one image in four.
+        let cut = self.random.bits() as usize;
+        for subject in self.subjects.iter().filter(|_| cut % 4 == 0) {
+            if let Err(difference) = packed::laws(*subject, image, cut / 4) {
+                let lent = Lent::Law(cut / 4);
+                return self.found(group, subject.name(), &[image], lent, difference);
+            }
+        }
+        let Some(form) = expected.packed() else {
+            return;
+        };
+        let [just, longer, shorter, none] = lengths;
+        let two = [self.random.pick(&[just, longer]), self.random.pick(&[shorter, none])];
+        let unpacking = Unpacking { packed: form.to_vec(), answer: Ok(image.clone()) };
+        self.unpack(group, &unpacking, &two);
+        let mut damaged = unpacking.packed;
+        forms::damage(&mut self.random, &mut damaged);
+        let more = self.random.pick(&lengths);
+        self.form(group, &Unpacking::new(damaged), &[more]);
+    }
+
+    /// Compares what is unpacked from some bytes, with lent outputs of the given lengths above the
+    /// image's; and what is packed from that.
+    fn form(&mut self, group: &'static str, unpacking: &Unpacking, more: &[isize]) {
+        self.unpack(group, unpacking, more);
+        for subject in self.subjects.iter().filter(|_| unpacking.answer.is_ok()) {
+            if let Err(difference) = packed::packs_again(*subject, &unpacking.packed) {
+                let lent = Lent::Unpacked(0);
+                let forms: [&[u8]; 1] = [&unpacking.packed];
+                return self.found(group, subject.name(), &forms, lent, difference);
+            }
+        }
+    }
+
+    /// Compares what is unpacked alone.
+    fn unpack(&mut self, group: &'static str, unpacking: &Unpacking, more: &[isize]) {
+        let around = dirty(&mut self.random, unpacking.image_length() + LONGER + 2 * GUARD);
+        for &more in more {
+            let length = unpacking.image_length().saturating_add_signed(more);
+            let around = &around[..length + 2 * GUARD];
+            for subject in self.subjects {
+                if let Err(difference) = unpacking.check(*subject, around) {
+                    let lent = Lent::Unpacked(more);
+                    let forms: [&[u8]; 1] = [&unpacking.packed];
+                    return self.found(group, subject.name(), &forms, lent, difference);
+                }
+            }
+            self.packing.unpacked[unpacking.reply(length).0.number] += 1;
+        }
+        self.packing.count(unpacking);
+        count_of(&mut self.counts, group).packed += (more.len() * self.subjects.len()) as u64;
     }
 
     fn found(
@@ -231,6 +349,31 @@ impl Worker<'_> {
                 Some(part) if index < group.run => self.run_functions(&part, 1),
                 _ => {}
             }
+        }
+    }
+
+    /// This worker's part of a group of packed forms.
+    fn every_form(&mut self, group: &Forms, first: usize, step: usize) {
+        for index in (first..group.count).step_by(step) {
+            if self.stopped() {
+                return;
+            }
+            self.form(group.name, &Unpacking::new((group.form)(index)), group.more);
+        }
+    }
+
+    /// One round over random packed forms.
+    fn form_round(&mut self) {
+        for _ in 0..200 {
+            let form = forms::any_form(&mut self.random);
+            let [one, _, two, three] = four_outputs(&mut self.random);
+            let more = self.random.pick(&[one, one, two, three]);
+            self.form("packed", &Unpacking::new(form), &[more]);
+        }
+        if self.random.chance(50) {
+            let form = forms::any_end(&mut self.random);
+            let more = self.random.pick(&[0, 0, -1]);
+            self.form("packed limits", &Unpacking::new(form), &[more]);
         }
     }
 
@@ -396,6 +539,14 @@ fn two_buffers(random: &mut Random, length: usize) -> [isize; 2] {
     [fits, random.pick(&[-1, -1, -1, NO_OUTPUT, shorter, shorter])]
 }
 
+/// Four lengths of an output, less that of what is written: the same, more, a byte less and none.
+fn four_outputs(random: &mut Random) -> [isize; 4] {
+    [0, random.pick(&[1, 2, 15, 16, 17, LONGER as isize]), -1, NO_OUTPUT]
+}
+
+/// An output is longer than what is written by so much at most.
+const LONGER: usize = 100;
+
 /// Stands for the subject where the records of what the original, or the model, returns are at
 /// fault.
 const RECORDS: &str = "returned function";
@@ -449,6 +600,7 @@ pub struct Outcome {
     /// How often each refusal number was the answer.
     pub refusals: [u64; 27],
     pub occurred: Occurred,
+    pub packing: Packing,
     pub factors: Factors,
     /// Pairs of runs, and the entries of their records.
     pub runs: u64,
@@ -465,6 +617,8 @@ pub enum Groups {
     Joined,
     /// Those of factors.
     Factors,
+    /// Those of packed forms, and a few groups of images.
+    Packed,
 }
 
 /// The exhaustive groups as a whole, then rounds of the random ones for the rest of
@@ -480,6 +634,11 @@ pub fn compare(
     let deadline = start + Duration::from_secs(seconds);
     let exhaustive = match groups {
         Groups::All => generate::exhaustive(),
+        Groups::Packed => generate::packed(),
+        Groups::Joined | Groups::Factors => Vec::new(),
+    };
+    let forms = match groups {
+        Groups::All | Groups::Packed => forms::exhaustive(),
         Groups::Joined | Groups::Factors => Vec::new(),
     };
     let pairs = generate::joined_short();
@@ -494,31 +653,39 @@ pub fn compare(
                 counts: Vec::new(),
                 refusals: [0; 27],
                 occurred: Occurred::default(),
+                packing: Packing::default(),
                 factors: Factors::default(),
                 runs: 0,
                 entries: 0,
                 stop: &stop,
                 found: &found,
             };
-            let (exhaustive, pairs) = (&exhaustive, &pairs);
+            let (exhaustive, forms, pairs) = (&exhaustive, &forms, &pairs);
+            let one_of = move |some: &[Groups]| groups == Groups::All || some.contains(&groups);
             scope.spawn(move || {
-                if groups != Groups::Joined {
+                if one_of(&[Groups::Factors]) {
                     worker.every_edge(index, threads);
                 }
                 for group in exhaustive {
                     worker.every_image(group, index, threads);
                 }
-                if groups != Groups::Factors {
+                for group in forms {
+                    worker.every_form(group, index, threads);
+                }
+                if one_of(&[Groups::Joined]) {
                     worker.every_pair(pairs, index, threads);
                 }
                 while !worker.stopped() {
-                    if groups != Groups::Joined {
+                    if one_of(&[Groups::Factors]) {
                         worker.factor_round();
+                    }
+                    if one_of(&[Groups::Packed]) {
+                        worker.form_round();
                     }
                     if groups == Groups::All {
                         worker.round();
                     }
-                    if groups != Groups::Factors {
+                    if one_of(&[Groups::Joined]) {
                         worker.joined_round();
                     }
                     if Instant::now() >= deadline {
@@ -536,6 +703,7 @@ pub fn compare(
         counts: Vec::new(),
         refusals: [0; 27],
         occurred: Occurred::default(),
+        packing: Packing::default(),
         factors: Factors::default(),
         runs: 0,
         entries: 0,
@@ -550,11 +718,13 @@ pub fn compare(
             sum.differing += count.differing;
             sum.comparisons += count.comparisons;
             sum.pages += count.pages;
+            sum.packed += count.packed;
         }
         for (sum, count) in outcome.refusals.iter_mut().zip(worker.refusals) {
             *sum += count;
         }
         outcome.occurred.add(&worker.occurred);
+        outcome.packing.add(&worker.packing);
         outcome.factors.add(&worker.factors);
         outcome.runs += worker.runs;
         outcome.entries += worker.entries;
@@ -576,11 +746,14 @@ fn count_of<'a>(counts: &'a mut Vec<Count>, name: &'static str) -> &'a mut Count
 /// Images of more bytes are made smaller for some time only.
 const LONG: usize = 16_384;
 const LONG_FOR: Duration = Duration::from_secs(4);
+/// Packed forms of so many bytes show something at the limit, and can't be much smaller.
+const LONG_FORM_FOR: Duration = Duration::from_secs(1);
 
-/// The smallest image, or the smallest two, that show the same difference; the pair of a factor as
-/// it is.
+/// The smallest image, the smallest two or the smallest packed form that show the same difference;
+/// the pair of a factor as it is.
 fn smallest(subjects: &Subjects, found: Found) -> Found {
-    let deadline = Instant::now() + LONG_FOR;
+    let form = matches!(found.lent, Lent::Unpacked(_));
+    let deadline = Instant::now() + if form { LONG_FORM_FOR } else { LONG_FOR };
     let same = |images: &[Vec<u8>]| {
         let long = images.iter().map(Vec::len).sum::<usize>() > LONG;
         if long && Instant::now() > deadline {
@@ -597,10 +770,14 @@ fn smallest(subjects: &Subjects, found: Found) -> Found {
         let before = images.clone();
         for at in 0..images.len() {
             let mut tried = images.clone();
-            images[at] = shrink(&images[at], |image| {
+            let shows = |image: &[u8]| {
                 tried[at] = image.to_vec();
                 same(&tried)
-            });
+            };
+            images[at] = match form {
+                true => shrink_by(forms::shorter, &images[at], shows),
+                false => shrink(&images[at], shows),
+            };
         }
         if images == before {
             break;
@@ -612,6 +789,14 @@ fn smallest(subjects: &Subjects, found: Found) -> Found {
 
 /// The difference that an image shows, or two that are joined, if they do.
 fn shown(subjects: &Subjects, found: &Found, images: &[Vec<u8>]) -> Option<Difference> {
+    let subject = subjects.iter().find(|subject| subject.name() == found.subject);
+    if let (Some(subject), Lent::Unpacked(more)) = (subject, found.lent) {
+        let unpacking = Unpacking::new(images[0].clone());
+        let length = unpacking.image_length().saturating_add_signed(more);
+        let around = dirty(&mut Random::new(0), length + 2 * GUARD);
+        let checked = unpacking.check(*subject, &around);
+        return checked.and_then(|()| packed::packs_again(*subject, &unpacking.packed)).err();
+    }
     let parts = images.iter().map(|image| Part::new(image));
     let mut parts = match parts.collect::<Result<Vec<Part>, Difference>>() {
         Ok(parts) => parts,
@@ -630,7 +815,7 @@ fn shown(subjects: &Subjects, found: &Found, images: &[Vec<u8>]) -> Option<Diffe
         }
         _ => parts.pop()?,
     };
-    let subject = subjects.iter().find(|subject| subject.name() == found.subject)?;
+    let subject = subject?;
     let Part { image, expected } = &part;
     let random = &mut Random::new(0);
     let differs = match found.lent {
@@ -642,7 +827,12 @@ fn shown(subjects: &Subjects, found: &Found, images: &[Vec<u8>]) -> Option<Diffe
             let length = expected.pages_length(image).saturating_add_signed(more);
             expected.check_pages(*subject, image, &dirty(random, length + 2 * GUARD))
         }
-        Lent::Number => return None,
+        Lent::Packed(more) => {
+            let length = expected.packed_length(image).saturating_add_signed(more);
+            expected.check_pack(*subject, image, &dirty(random, length + 2 * GUARD))
+        }
+        Lent::Law(cut) => packed::laws(*subject, image, cut),
+        Lent::Unpacked(_) | Lent::Number => return None,
     };
     differs.err()
 }

@@ -127,6 +127,7 @@ pub fn exhaustive() -> Vec<Exhaustive> {
     vec![
         every_length(),
         every_refusal(),
+        every_cell(),
         page_ends(),
         registers(),
         short_divisions(),
@@ -142,6 +143,11 @@ pub fn exhaustive() -> Vec<Exhaustive> {
         short_sites(),
         short_with_events(),
     ]
+}
+
+/// Those in which packed forms differ.
+pub fn packed() -> Vec<Exhaustive> {
+    vec![every_length(), every_refusal(), every_cell()]
 }
 
 /// Images of every length up to five cells and of those around the greatest, good
@@ -178,6 +184,60 @@ fn every_refusal() -> Exhaustive {
             Some(index) => [&good[..], &images[index]].concat(),
         }),
     }
+}
+
+/// A function with each command and each event kind: optional operands absent, present, or no byte
+/// zero that may be set, where sites aren't good; alone, or with a function before it and one behind.
+fn every_cell() -> Exhaustive {
+    let mut cells: Vec<(Vec<Cell>, Vec<Cell>)> = Vec::new();
+    for command in COMMANDS {
+        let some = [false, true].map(|present| filled(command.byte, present, 2));
+        for cell in some.into_iter().chain([full(command.byte)]) {
+            let events = events_for(&[cell], |_| 1);
+            cells.push((vec![cell], if cell == full(command.byte) { vec![] } else { events }));
+        }
+    }
+    for kind in [cells::EVENT_BORROW, cells::EVENT_WRITE] {
+        let full = Some(0xF4F3_F2F1);
+        for (one, two) in [(None, None), (full, None), (None, full), (full, full)] {
+            let mut event = event(kind, one, two);
+            event[11..15].copy_from_slice(&[1, 2, 3, 4]);
+            cells.push((vec![], vec![event]));
+        }
+    }
+    Exhaustive {
+        name: "every cell",
+        more: &[0],
+        run: 0,
+        count: 2 * cells.len(),
+        image: Box::new(move |index| {
+            let (instrs, events) = &cells[index / 2];
+            let mut image = Vec::new();
+            if index % 2 == 1 {
+                cells::push_function(&mut image, 0x0201, &[ret(Some(1))], &[]);
+            }
+            cells::push_function(&mut image, 0xF2F1, instrs, events);
+            if index % 2 == 1 {
+                cells::push_function(&mut image, 0x0403, &[], &[borrow(None)]);
+            }
+            image
+        }),
+    }
+}
+
+/// A good cell of a command, without its events: no byte is zero that may be set.
+fn full(command: u8) -> Cell {
+    let mut cell = filled(command, true, 0x0302);
+    for &(form, place) in &table::layout(command).unwrap().places {
+        match form {
+            Form::Site => put_site(&mut cell, place, Some(0xF4F3_F2F1)),
+            Form::Number | Form::Word | Form::Double => {
+                cell[place..place + form.width()].fill(0xF5)
+            }
+            _ => {}
+        }
+    }
+    cell
 }
 
 /// Functions of as many cells as a page ends with, up to eleven pages, and of none: instructions
@@ -791,7 +851,7 @@ pub fn filled(command: u8, present: bool, number: u16) -> Cell {
 }
 
 /// Numbers around the edges of a byte and of the registers, and some far past them.
-const EDGES: [u16; 18] = [
+pub(crate) const EDGES: [u16; 18] = [
     0, 1, 254, 255, 256, 257, 511, 512, 513, 1022, 1023, 1024, 1025, 1279, 1280, 32768, 65279,
     65535,
 ];

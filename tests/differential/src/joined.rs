@@ -32,6 +32,7 @@ pub fn joined(first: &Part, second: &Part) -> Option<Part> {
             original: None,
             fuller: None,
             pages: None,
+            packed: None,
         };
         return Some(Part { image, expected });
     }
@@ -50,6 +51,7 @@ pub fn joined(first: &Part, second: &Part) -> Option<Part> {
         fuller: both(&one.fuller, &two.fuller).map(|(one, two)| written(one, two)),
         // Each function begins a page numbered 001.
         pages: both(&one.pages, &two.pages).map(|(one, two)| [&one[..], two].concat()),
+        packed: both(&one.packed, &two.packed).map(|(one, two)| [&one[..], two].concat()),
     };
     Some(Part { image, expected })
 }

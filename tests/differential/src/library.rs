@@ -11,7 +11,7 @@ mod linked {
 
     /// Image and length, and the references to position and detail.
     type Check = unsafe extern "C" fn(*const u8, usize, *mut usize, *mut usize) -> usize;
-    /// Image, output, their lengths, and the references to the two numbers.
+    /// Image or packed form, output, their lengths, and the references to the two numbers.
     type Write =
         unsafe extern "C" fn(*const u8, usize, *mut u8, usize, *mut usize, *mut usize) -> usize;
 
@@ -66,6 +66,22 @@ mod linked {
         fn matchdesk_pages(
             image: *const u8,
             image_length: usize,
+            out: *mut u8,
+            out_length: usize,
+            first: *mut usize,
+            second: *mut usize,
+        ) -> usize;
+        fn matchdesk_pack(
+            image: *const u8,
+            image_length: usize,
+            out: *mut u8,
+            out_length: usize,
+            first: *mut usize,
+            second: *mut usize,
+        ) -> usize;
+        fn matchdesk_unpack(
+            packed: *const u8,
+            packed_length: usize,
             out: *mut u8,
             out_length: usize,
             first: *mut usize,
@@ -158,6 +174,12 @@ mod linked {
         }
         fn pages(&self, image: &[u8], out: &mut [u8]) -> Reply {
             reply(matchdesk_pages, image, out)
+        }
+        fn pack(&self, image: &[u8], out: &mut [u8]) -> Reply {
+            reply(matchdesk_pack, image, out)
+        }
+        fn unpack(&self, packed: &[u8], out: &mut [u8]) -> Reply {
+            reply(matchdesk_unpack, packed, out)
         }
         fn factor(&self, leaf: Leaf, wanted: i32, factor: i32, other: &mut i32) -> usize {
             // Between two numbers that nobody may write.

@@ -3,9 +3,10 @@
 
 use differential::answers::{Operation, Operations};
 use differential::compare::{self, hexadecimal, Difference};
-use differential::driver::{self, Count, Factors, Found, Groups, Lent, Occurred, Outcome};
+use differential::driver::{self, Count, Factors, Found, Groups, Lent, Occurred, Outcome, Packing};
 use differential::factors::{self, TURNS};
 use differential::model::Model;
+use differential::packed::FAULTS;
 use differential::pages::SHAPES;
 use differential::program::{self, Program};
 use differential::random::{mix, Random};
@@ -28,7 +29,8 @@ const USAGE: &str = "\
 usage: [--seed N] [--seconds N] [--threads N]
        [--seed N] --sample FILE
        --replay FILE
-       [--seed N] [--seconds N] --program FILE [--word rewrite|fuller|pages|factor]";
+       [--seed N] [--seconds N] --program FILE
+           [--word rewrite|fuller|pages|pack|unpack|factor]";
 
 fn options() -> Result<Options, String> {
     let now = SystemTime::now().duration_since(UNIX_EPOCH).unwrap_or_default();
@@ -169,7 +171,8 @@ fn compare(options: &Options) -> Result<String, String> {
         return Ok(format!(
             "no difference between the original and: {}\n\
              the fuller rewrite: by the model, and by the original as far as it decides\n\
-             the pages: by the model; the factors: by the model, and by a search as far as it goes",
+             the pages and the packed form: by the model\n\
+             the factors: by the model, and by a search as far as it goes",
             names.join(", ")
         ));
     };
@@ -178,14 +181,17 @@ fn compare(options: &Options) -> Result<String, String> {
     if let [_, _] = images[..] {
         println!("two images, joined in this order");
     }
+    let name = if matches!(lent, Lent::Unpacked(_)) { "packed form" } else { "image" };
     for image in &images {
-        println!("image, {} bytes", image.len());
+        println!("{name}, {} bytes", image.len());
         println!("{}", hexadecimal(image));
     }
     match lent {
         Lent::Output(more) => println!("lent output longer than the image by {more}"),
         Lent::Pages(more) => println!("lent buffer longer than the pages by {more}"),
-        Lent::Number => {}
+        Lent::Packed(more) => println!("lent output longer than the packed form by {more}"),
+        Lent::Unpacked(more) => println!("lent output longer than what is unpacked by {more}"),
+        Lent::Law(_) | Lent::Number => {}
     }
     println!("expected: {}", difference.expected);
     Err(format!("{subject}: {}", difference.got))
@@ -224,17 +230,13 @@ fn search(subjects: &[&'static dyn Operations], seed: u64) -> Result<(), Differe
 fn report(outcome: &Outcome) {
     let mut total = Count { name: "all", ..Count::default() };
     // Differing: where the fuller rewrite writes other cells than the default one.
-    let [images, accepted, differing, comparisons, pages] =
-        ["images", "accepted", "differing", "comparisons", "pages"];
-    println!(
-        "{:20} {images:>12} {accepted:>12} {differing:>12} {comparisons:>12} {pages:>12}",
-        "group"
-    );
+    let columns = ["images", "accepted", "differing", "comparisons", "pages", "packed"];
+    let columns = columns.map(|column| format!("{column:>12}"));
+    println!("{:20} {}", "group", columns.join(" "));
     let line = |count: &Count| {
-        let Count { name, images, accepted, differing, comparisons, pages } = count;
-        println!(
-            "{name:20} {images:>12} {accepted:>12} {differing:>12} {comparisons:>12} {pages:>12}"
-        );
+        let Count { name, images, accepted, differing, comparisons, pages, packed } = count;
+        let numbers = [images, accepted, differing, comparisons, pages, packed];
+        println!("{name:20} {}", numbers.map(|number| format!("{number:>12}")).join(" "));
     };
     for count in &outcome.counts {
         total.images += count.images;
@@ -242,18 +244,22 @@ fn report(outcome: &Outcome) {
         total.differing += count.differing;
         total.comparisons += count.comparisons;
         total.pages += count.pages;
+        total.packed += count.packed;
         line(count);
     }
     line(&total);
-    let refusals = outcome.refusals.iter().enumerate().filter(|(_, count)| **count > 0);
-    let refusals: Vec<String> =
-        refusals.map(|(number, count)| format!("{number}: {count}")).collect();
-    println!("refusals by number  {}", refusals.join(", "));
+    println!("refusals by number  {}", by_number(&outcome.refusals));
     let Occurred { too_short, longest, shapes } = &outcome.occurred;
     println!("pages in a buffer too short (30) {too_short}, longest pages {longest}");
     let shapes: Vec<String> =
         SHAPES.iter().zip(shapes).map(|((name, _), count)| format!("{name}: {count}")).collect();
     println!("functions on pages  {}", shapes.join(", "));
+    let Packing { packed, unpacked, forms, faults } = &outcome.packing;
+    println!("packed, by answer   {}", by_number(packed));
+    println!("unpacked, by answer {}", by_number(unpacked));
+    let faults: Vec<String> =
+        FAULTS.iter().zip(faults).map(|((name, _), count)| format!("{name}: {count}")).collect();
+    println!("packed forms {forms}; {}", faults.join(", "));
     let Factors { edges, random, turns } = &outcome.factors;
     println!("factors of pairs    edges: {edges}, random: {random}");
     let turns: Vec<String> =
@@ -262,4 +268,11 @@ fn report(outcome: &Outcome) {
     println!("pairs of runs {}, entries of their records {}", outcome.runs, outcome.entries);
     let seconds = outcome.time.as_secs_f64();
     println!("{seconds:.1} s, {:.0} images a second", total.images as f64 / seconds);
+}
+
+/// How often each number came.
+fn by_number(counts: &[u64]) -> String {
+    let counts = counts.iter().enumerate().filter(|(_, count)| **count > 0);
+    let counts: Vec<String> = counts.map(|(number, count)| format!("{number}: {count}")).collect();
+    counts.join(", ")
 }

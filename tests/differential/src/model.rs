@@ -1,5 +1,6 @@
 //! Document 01's answers and document 02's fuller rewrite, written from the documents on cells
-//! and bytes. Document 02's pages are in `pages.rs`, its factors in `factors.rs`.
+//! and bytes. Document 02's pages are in `pages.rs`, its packed form in `packed.rs`, its factors in
+//! `factors.rs`.
 
 use crate::answers::{Checked, Operation, Operations, Refusal, Reply, Rewritten, Success};
 use crate::cells::{self, Cell, Function};
@@ -7,6 +8,7 @@ use crate::codec::Form;
 use crate::factors::{self, Leaf};
 use crate::leaves::{self, Computed, Const};
 use crate::legacy_lowering::byte;
+use crate::packed;
 use crate::pages;
 use crate::table;
 use std::collections::{HashMap, HashSet};
@@ -37,6 +39,12 @@ impl Operations for Model {
     }
     fn pages(&self, image: &[u8], out: &mut [u8]) -> Reply {
         pages::answer(image, out)
+    }
+    fn pack(&self, image: &[u8], out: &mut [u8]) -> Reply {
+        packed::pack_answer(image, out)
+    }
+    fn unpack(&self, packed: &[u8], out: &mut [u8]) -> Reply {
+        packed::unpack_answer(packed, out)
     }
     fn factor(&self, leaf: Leaf, wanted: i32, factor: i32, other: &mut i32) -> usize {
         factors::answer(factors::model(leaf, wanted, factor), other)
@@ -84,7 +92,7 @@ fn zero(bytes: &[u8]) -> bool {
     bytes.iter().all(|&byte| byte == 0)
 }
 
-fn instr_fault(cell: &Cell) -> Option<u8> {
+pub(crate) fn instr_fault(cell: &Cell) -> Option<u8> {
     let Some(layout) = table::layout(cell[0]) else {
         return Some(3);
     };
@@ -92,7 +100,7 @@ fn instr_fault(cell: &Cell) -> Option<u8> {
     (!good || !zero(&cell[layout.end..])).then_some(4)
 }
 
-fn event_fault(cell: &Cell) -> Option<u8> {
+pub(crate) fn event_fault(cell: &Cell) -> Option<u8> {
     if cell[0] != cells::EVENT_BORROW && cell[0] != cells::EVENT_WRITE {
         return Some(3);
     }

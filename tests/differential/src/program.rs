@@ -1,11 +1,14 @@
 //! The printing program, run as a user would run it.
 
-use crate::answers::Operation;
+use crate::answers::{Operation, Refusal};
 use crate::cells::MAX_IMAGE;
 use crate::compare::{self, hexadecimal, Expected};
+use crate::forms;
 use crate::generate;
+use crate::model;
+use crate::packed;
 use crate::random::Random;
-use crate::shrink::shrink;
+use crate::shrink::{shrink, shrink_by};
 use std::io::{Read, Write};
 use std::process::{Command, Stdio};
 use std::time::{Duration, Instant};
@@ -23,6 +26,17 @@ pub struct Program<'a> {
 pub enum Text {
     Rewritten(Operation),
     Pages,
+    /// The packed form of an image, and the image of a packed form: bytes, and a refusal on standard
+    /// error.
+    Packed,
+    Unpacked,
+}
+
+/// What comes on standard output and on standard error.
+#[derive(Debug, Clone, PartialEq, Eq)]
+pub struct Said {
+    pub output: Vec<u8>,
+    pub error: Vec<u8>,
 }
 
 impl From<Operation> for Text {
@@ -37,18 +51,36 @@ impl<'a> Program<'a> {
             None | Some("rewrite") => Text::Rewritten(Operation::Rewrite),
             Some("fuller") => Text::Rewritten(Operation::Fuller),
             Some("pages") => Text::Pages,
+            Some("pack") => Text::Packed,
+            Some("unpack") => Text::Unpacked,
             Some(word) => return Err(format!("no text is known for the word {word}")),
         };
         Ok(Program { file, word, text })
     }
 }
 
-/// What a program must write for an image.
+/// What a program must write to standard output for an image.
 pub fn text(text: impl Into<Text>, image: &[u8]) -> Result<String, String> {
-    let expected = compare::expected(image).map_err(|difference| difference.what)?;
-    match text.into() {
-        Text::Rewritten(operation) => Ok(rewritten_text(&expected, operation, image)),
-        Text::Pages => pages_text(&expected, image),
+    let said = said(text.into(), image)?;
+    String::from_utf8(said.output).map_err(|error| error.to_string())
+}
+
+/// What a program must write for its input.
+pub fn said(text: Text, input: &[u8]) -> Result<Said, String> {
+    let expected = || compare::expected(input).map_err(|difference| difference.what);
+    let output = |output: String| Said { output: output.into(), error: Vec::new() };
+    match text {
+        Text::Rewritten(operation) => Ok(output(rewritten_text(&expected()?, operation, input))),
+        Text::Pages => Ok(output(pages_text(&expected()?, input)?)),
+        Text::Packed => Ok(bytes(model::image_check(input).map(|()| packed::pack(input)))),
+        Text::Unpacked => Ok(bytes(packed::unpack(input).map_err(Refusal::from))),
+    }
+}
+
+fn bytes(answer: Result<Vec<u8>, Refusal>) -> Said {
+    match answer {
+        Ok(output) => Said { output, error: Vec::new() },
+        Err(refusal) => Said { output: Vec::new(), error: format!("{refusal}\n").into() },
     }
 }
 
@@ -83,7 +115,11 @@ pub fn compare(program: Program, seed: u64, seconds: u64) -> Result<String, Stri
         inputs += 1;
     }
     while start.elapsed() < Duration::from_secs(seconds) {
-        check(program, &input(&mut random))?;
+        let input = match program.text {
+            Text::Unpacked => packed_input(&mut random),
+            _ => input(&mut random),
+        };
+        check(program, &input)?;
         inputs += 1;
     }
     let Program { file, text, .. } = program;
@@ -111,27 +147,60 @@ fn input(random: &mut Random) -> Vec<u8> {
     }
 }
 
-fn check(program: Program, image: &[u8]) -> Result<(), String> {
-    let differs = |image: &[u8]| match text(program.text, image) {
-        Ok(expected) => run(program, image) != Ok(expected),
+fn packed_input(random: &mut Random) -> Vec<u8> {
+    match random.below(20) {
+        0 => forms::any_end(random),
+        1 => packed::pack(&generate::paged(random)),
+        2 => {
+            let mut form = packed::pack(&generate::longest_pages(random));
+            let more = random.pick(&[0, 1, 8192, 1 << 20]);
+            form.resize(form.len() + more, random.pick(&[0, 0xF0]));
+            form
+        }
+        _ => forms::any_form(random),
+    }
+}
+
+fn check(program: Program, input: &[u8]) -> Result<(), String> {
+    check_by(program.text, program.file, |input| run(program, input), input)
+}
+
+/// Compares all that a program writes.
+pub fn check_by(
+    text: Text,
+    name: &str,
+    run: impl Fn(&[u8]) -> Result<Said, String>,
+    input: &[u8],
+) -> Result<(), String> {
+    let differs = |input: &[u8]| match said(text, input) {
+        Ok(expected) => run(input) != Ok(expected),
         Err(_) => true,
     };
-    if !differs(image) {
+    if !differs(input) {
         return Ok(());
     }
-    let image = shrink(image, differs);
+    let input = match text {
+        Text::Unpacked => shrink_by(forms::shorter, input, differs),
+        _ => shrink(input, differs),
+    };
+    let shown = |said: Result<Said, String>| match said {
+        Err(error) => error,
+        Ok(Said { output, error }) => {
+            format!("\"{}\", error \"{}\"", output.escape_ascii(), error.escape_ascii())
+        }
+    };
     Err(format!(
-        "DIFFERENCE in what {} writes for {} bytes\n{}\nmust be: {:?}\nis: {:?}",
-        program.file,
-        image.len(),
-        hexadecimal(&image),
-        text(program.text, &image),
-        run(program, &image),
+        "DIFFERENCE in what {name} writes for {} bytes\n{}\nmust be: {}\nis: {}",
+        input.len(),
+        hexadecimal(&input),
+        shown(said(text, &input)),
+        shown(run(&input)),
     ))
 }
 
-/// What the program writes; it must not write to standard error or be ended by a signal.
-fn run(program: Program, input: &[u8]) -> Result<String, String> {
+/// What the program writes; it must not be ended by a signal. The exit status of `pack` and `unpack`
+/// is 0; of a refusal 0 or, by the command that tells it by what the program wrote, 3.
+fn run(program: Program, input: &[u8]) -> Result<Said, String> {
     let mut child = Command::new(program.file)
         .args(program.word)
         .stdin(Stdio::piped())
@@ -150,9 +219,14 @@ fn run(program: Program, input: &[u8]) -> Result<String, String> {
         writer.join().unwrap()
     });
     let status = child.wait().map_err(|error| error.to_string())?;
-    if !taken || !errors.is_empty() || status.code().is_none() {
+    let good = match (program.text, status.code()) {
+        (_, None) => false,
+        (Text::Packed | Text::Unpacked, Some(code)) => code == 0 || code == 3 && !errors.is_empty(),
+        _ => true,
+    };
+    if !taken || !good {
         let errors = String::from_utf8_lossy(&errors);
         return Err(format!("{status}, input read to its end: {taken}, errors: {errors}"));
     }
-    String::from_utf8(output).map_err(|error| error.to_string())
+    Ok(Said { output, error: errors })
 }

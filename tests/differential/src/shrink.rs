@@ -1,10 +1,19 @@
-//! The smallest image that still shows a difference, by steps that each keep it.
+//! The smallest image, or packed form, that still shows a difference, by steps that each keep it.
 
 use crate::cells::{self, CELL};
 
 /// Takes away functions, cells and bytes as long as `shows` holds.
-pub fn shrink(image: &[u8], mut shows: impl FnMut(&[u8]) -> bool) -> Vec<u8> {
-    let mut best = image.to_vec();
+pub fn shrink(image: &[u8], shows: impl FnMut(&[u8]) -> bool) -> Vec<u8> {
+    shrink_by(|image| Box::new(candidates(image)), image, shows)
+}
+
+/// The same by other candidates for what is shorter.
+pub fn shrink_by(
+    candidates: impl Fn(&[u8]) -> Box<dyn Iterator<Item = Vec<u8>> + '_>,
+    bytes: &[u8],
+    mut shows: impl FnMut(&[u8]) -> bool,
+) -> Vec<u8> {
+    let mut best = bytes.to_vec();
     loop {
         let smaller = candidates(&best).find(|candidate| shows(candidate));
         match smaller {

@@ -218,6 +218,7 @@ fn factor_with(fault: Fault, leaf: Leaf, wanted: i32, factor: i32) -> Option<i64
 
 impl Operations for Wrong {
     checks_and_rewrites_of_the_model!();
+    packing_of_the_model!();
     fn pages(&self, image: &[u8], out: &mut [u8]) -> Reply {
         Model.pages(image, out)
     }

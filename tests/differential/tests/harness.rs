@@ -1,5 +1,8 @@
 //! Shows that the harness finds what it is there to find.
 
+#[macro_use]
+mod common;
+
 use differential::answers::{
     Checked, Operation, Operations, Refusal, Reply, Rewritten, Success, ORIGINALS,
 };
@@ -750,6 +753,7 @@ impl Operations for Wrong {
         }
         Ok(success)
     }
+    packing_of_the_model!();
     fn factor(&self, leaf: Leaf, wanted: i32, factor: i32, other: &mut i32) -> usize {
         Model.factor(leaf, wanted, factor, other)
     }

@@ -1,6 +1,9 @@
 //! Shows that the groups of joined images alone find programs in which one function leans on another
 //! (document 02, W12).
 
+#[macro_use]
+mod common;
+
 use differential::answers::{Checked, Operation, Operations, Refusal, Reply, Rewritten, Success};
 use differential::cells::{self, Cell, Function, CELL, MAX_EVENTS, MAX_IMAGE, MAX_INSTRS};
 use differential::driver::{self, Groups};
@@ -421,6 +424,7 @@ impl Operations for Wrong {
     fn fuller(&self, image: &[u8], out: &mut [u8]) -> Rewritten {
         self.answer(Fuller, image, out)
     }
+    packing_of_the_model!();
     fn factor(&self, leaf: Leaf, wanted: i32, factor: i32, other: &mut i32) -> usize {
         Model.factor(leaf, wanted, factor, other)
     }

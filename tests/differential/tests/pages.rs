@@ -6,7 +6,7 @@ mod common;
 
 use differential::answers::{Operation, Operations, Refusal, Reply};
 use differential::cells::{self, Cell, Function, CELL, MAX_IMAGE};
-use differential::compare::{self, GUARD};
+use differential::compare::{self, GUARD, PAGES};
 use differential::driver::{self, Groups, Lent};
 use differential::factors::Leaf;
 use differential::generate::{
@@ -442,6 +442,7 @@ fn too_short(fault: Fault, pages: &[u8], out: &mut [u8]) -> Reply {
 
 impl Operations for Wrong {
     checks_and_rewrites_of_the_model!();
+    packing_of_the_model!();
     fn pages(&self, image: &[u8], out: &mut [u8]) -> Reply {
         answer(self.0, image, out)
     }
@@ -640,15 +641,15 @@ fn guards() {
     let mut before = vec![3; LINE + 2 * GUARD + 5];
     let mut after = before.clone();
     after[GUARD..GUARD + LINE].copy_from_slice(&written);
-    assert!(compare::check_lent(&written, &before, &after).is_ok());
-    assert!(compare::check_lent(&[], &before, &after).is_err());
+    assert!(compare::check_lent(&PAGES, &written, &before, &after).is_ok());
+    assert!(compare::check_lent(&PAGES, &[], &before, &after).is_err());
     for at in 0..before.len() {
         after[at] ^= 1;
-        assert!(compare::check_lent(&written, &before, &after).is_err(), "{at}");
+        assert!(compare::check_lent(&PAGES, &written, &before, &after).is_err(), "{at}");
         after[at] ^= 1;
     }
     before[GUARD] = 0;
-    assert!(compare::check_lent(&written, &before, &after).is_ok());
+    assert!(compare::check_lent(&PAGES, &written, &before, &after).is_ok());
 }
 
 /// Each shape is among the images that are made, and the longest pages are 4,179 lines.

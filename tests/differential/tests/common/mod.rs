@@ -1,6 +1,7 @@
 //! What wrong programs share.
 
 /// In an `impl Operations`: a wrong program whose checks and rewrites are the model's.
+#[allow(unused_macros)]
 macro_rules! checks_and_rewrites_of_the_model {
     () => {
         fn name(&self) -> &'static str {
@@ -23,6 +24,19 @@ macro_rules! checks_and_rewrites_of_the_model {
         }
         fn fuller(&self, image: &[u8], out: &mut [u8]) -> differential::answers::Rewritten {
             Model.fuller(image, out)
+        }
+    };
+}
+
+/// In an `impl Operations`: a wrong program whose packing and unpacking are the model's.
+#[allow(unused_macros)]
+macro_rules! packing_of_the_model {
+    () => {
+        fn pack(&self, image: &[u8], out: &mut [u8]) -> differential::answers::Reply {
+            Model.pack(image, out)
+        }
+        fn unpack(&self, packed: &[u8], out: &mut [u8]) -> differential::answers::Reply {
+            Model.unpack(packed, out)
         }
     };
 }
