@@ -134,7 +134,9 @@ fn split(line: &str) -> Words {
 fn by_hand() {
     let wanted = "WANTED is no i32: a whole number from -2147483648 to 2147483647\n";
     let factor = "FACTOR is no i32: a whole number from -2147483648 to 2147483647\n";
-    let usage = "usage: matchdesk [rewrite | fuller | bytes | check | pages] < image\n       \
+    let usage =
+        "usage: matchdesk [rewrite | fuller | bytes | check | pages | pack] < image\n       \
+                 matchdesk unpack < packed\n       \
                  matchdesk factor (fx | i32) WANTED FACTOR\n";
     let rows = [
         ("factor fx 2250 1500", "1500\n", ""),
