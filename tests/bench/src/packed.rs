@@ -2,11 +2,13 @@
 //! same image.
 
 use crate::{images, output, APART};
-use differential::cells::{self, EVENT_END, HEAD_END, MAX_EVENTS, MAX_INSTRS};
+use differential::answers::{Operations, Reply};
+use differential::cells::{self, MAX_EVENTS, MAX_INSTRS};
 use differential::generate::{self, computed, event, filled, load_i32, ret, store_var};
 use differential::legacy_lowering::byte;
+use differential::library::Library;
 use differential::random::Random;
-use differential::{model, table};
+use differential::{model, packed};
 use std::hint::black_box;
 use std::time::{Duration, Instant};
 
@@ -17,35 +19,6 @@ const MOST: f64 = 1.5;
 const CELLS: usize = 4096;
 
 const LAST_COMMAND: u8 = byte::TupleGet;
-
-/// Input, output, their lengths, and the references to the two numbers.
-type Write =
-    unsafe extern "C" fn(*const u8, usize, *mut u8, usize, *mut usize, *mut usize) -> usize;
-
-extern "C" {
-    fn matchdesk_image_check(
-        image: *const u8,
-        image_length: usize,
-        position: *mut usize,
-        detail: *mut usize,
-    ) -> usize;
-    fn matchdesk_pack(
-        image: *const u8,
-        image_length: usize,
-        out: *mut u8,
-        out_length: usize,
-        first: *mut usize,
-        second: *mut usize,
-    ) -> usize;
-    fn matchdesk_unpack(
-        packed: *const u8,
-        packed_length: usize,
-        out: *mut u8,
-        out_length: usize,
-        first: *mut usize,
-        second: *mut usize,
-    ) -> usize;
-}
 
 /// The rows, and whether each of the two takes at most `MOST` times as long as the image check in
 /// every one.
@@ -129,61 +102,35 @@ fn every_command() -> Vec<u8> {
     })
 }
 
-/// Cell by cell the bytes that the table of commands defines.
-fn packed(image: &[u8]) -> Vec<u8> {
-    let mut packed = Vec::new();
-    for function in cells::functions(image) {
-        let head = cells::head(function.name, function.instrs.len(), function.events.len());
-        packed.extend_from_slice(&head[..HEAD_END]);
-        for cell in function.instrs {
-            packed.extend_from_slice(&cell[..table::layout(cell[0]).unwrap().end]);
-        }
-        for cell in function.events {
-            packed.extend_from_slice(&cell[..EVENT_END]);
-        }
-    }
-    packed
-}
-
-fn written(function: Write, input: &[u8], out: &mut [u8]) -> usize {
-    let (mut first, mut second) = (0, 0);
-    let number = unsafe {
-        function(input.as_ptr(), input.len(), out.as_mut_ptr(), out.len(), &mut first, &mut second)
-    };
-    assert_eq!((number, second), (0, 0));
-    first
+/// The length written.
+fn written(reply: Reply) -> usize {
+    assert_eq!((reply.number, reply.second), (0, 0));
+    reply.first
 }
 
 /// The ratios of `pack` and of `unpack`.
 fn row(time: Duration, name: &str, image: &[u8]) -> [f64; 2] {
     assert_eq!(model::image_check(image), Ok(()), "{name}");
-    let packed = packed(image);
+    let packed = packed::pack(image);
     // Each has an output of its own, as long as the result.
     let mut to_pack = output(packed.len());
     let to_pack = &mut to_pack[APART..];
     let mut to_unpack = output(image.len());
     let to_unpack = &mut to_unpack[APART..];
-    assert_eq!(written(matchdesk_pack, image, to_pack), packed.len(), "{name}");
+    assert_eq!(written(Library.pack(image, to_pack)), packed.len(), "{name}");
     assert_eq!(to_pack, packed, "{name}");
-    assert_eq!(written(matchdesk_unpack, &packed, to_unpack), image.len(), "{name}");
+    assert_eq!(written(Library.unpack(&packed, to_unpack)), image.len(), "{name}");
     assert_eq!(to_unpack, image, "{name}");
 
     let cells = image.len() / cells::CELL;
     let times = CELLS.div_ceil(cells);
-    let mut check = || {
-        let image = black_box(image);
-        let (mut position, mut detail) = (0, 0);
-        let number = unsafe {
-            matchdesk_image_check(image.as_ptr(), image.len(), &mut position, &mut detail)
-        };
-        assert_eq!((number, position, detail), (0, 0, 0));
-    };
+    let mut check = || assert_eq!(Library.image_check(black_box(image)), Ok(()));
     let mut pack = || {
-        written(matchdesk_pack, black_box(image), to_pack);
+        written(Library.pack(black_box(image), to_pack));
         black_box(&mut *to_pack);
     };
     let mut unpack = || {
-        written(matchdesk_unpack, black_box(&packed), to_unpack);
+        written(Library.unpack(black_box(&packed), to_unpack));
         black_box(&mut *to_unpack);
     };
     let [check, pack, unpack] = by_turns(time, times, [&mut check, &mut pack, &mut unpack]);
