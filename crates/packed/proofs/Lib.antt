@@ -8,3 +8,4 @@ pub mod Promises
 pub mod Puts
 pub mod Turns
 pub mod Runs
+pub mod Counts

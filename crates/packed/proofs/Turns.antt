@@ -1,4 +1,4 @@
--- One turn of each loop over all cells: the length kept, the bytes kept, the packed cells checked.
+-- One turn of the loops over all cells: the bytes kept, the packed cells checked.
 use mathlib.Core.Path.{_≡_, refl, ap, ap₂, sym, _∙_}
 use mathlib.Core.List.{List, [], _∷_, _++_, append-assoc, append-nil}
 use mathlib.Core.Bool.{true, false}
@@ -39,7 +39,7 @@ pub in-kept : (r : Role) (s : List ℕ) (i : ℕ) → i < length s / 16 → size
 in-kept r s i h = omega (arith, in-full s i h, size-fits r (cellIn s i))
 
 module _ (s : List ℕ) (i : ℕ) (c : Cell) (h : i < length s / 16) (is : c ≡ getD (cells s) i []) where
-  cell-there : drop i (cells s) ≡ c ∷ drop (i + 1) (cells s)
+  pub cell-there : drop i (cells s) ≡ c ∷ drop (i + 1) (cells s)
   cell-there =
       let l : i < length (cells s) = omega (arith, length-cells s) in
       drop-cons (cells s) i [] l ∙ ap₂ (λ (x : Cell) (j : ℕ). x ∷ drop j (cells s)) (sym is) (sym (add-one i))
@@ -51,29 +51,8 @@ module _ (s : List ℕ) (i : ℕ) (c : Cell) (h : i < length s / 16) (is : c ≡
         ap (packFrom (promise code events)) cell-there
         ∙ ap (λ (due : List Role). keep (roleOf (promise code events)) c ++ packFrom due (drop (i + 1) (cells s))) (sym (n .due))
 
-none-there : (s : List ℕ) (i : ℕ) → length s / 16 ≤ i → drop i (cells s) ≡ []
+pub none-there : (s : List ℕ) (i : ℕ) → length s / 16 ≤ i → drop i (cells s) ≡ []
 none-there s i h = drop-of-length-le (cells s) {i = i} (omega (arith, length-cells s))
-
--- ---- the length kept
-
-pub record Counting (s : List ℕ) (code events total i : ℕ) : Type 0 where
-  pub says : length (packed s) ≡ total + length (packFrom (promise code events) (drop i (cells s)))
-  pub small : total ≤ 16 * i
-
-pub counting-none : (s : List ℕ) → Counting s 0 0 0 0
-unfolding packed
-counting-none s = record { says = omega arith; small = omega arith }
-
-module _ (s : List ℕ) (code events total i : ℕ) (k : Counting s code events total i) where
-  pub counting-next : (c : Cell) (r : Next) → i < length s / 16 → c ≡ getD (cells s) i [] → length c ≡ 16 → NextCell code events c r
-      → Counting s (r .code) (r .events) (total + r .size) (i + 1)
-  counting-next c r h is full n =
-      let role = roleOf (promise code events) in
-      let e = ap length (kept-on s i c h is code events r n) ∙ length-append (keep role c) (packFrom (promise (r .code) (r .events)) (drop (i + 1) (cells s))) in
-      record { says = omega (arith, k .says, e, keep-length role c full, n .keeps); small = omega (arith, k .small, n .keeps, size-fits role c) }
-
-  pub counting-end : length s / 16 ≤ i → total ≡ length (packed s)
-  counting-end h = omega (arith, k .says, ap (λ (cs : List Cell). length (packFrom (promise code events) cs)) (none-there s i h))
 
 -- ---- a part of an output written, the part `&mut out[at..]`
 

@@ -1,15 +1,17 @@
 -- Inner: what the functions inside the two operations say.
-use Prim.Native.Nat.{ℕ, zero, suc, _+_}
+use Prim.Native.Nat.{ℕ, zero, suc, _+_, _*_}
 use mathlib.Core.Path.{_≡_}
 use mathlib.Core.List.{List, [], _++_, map}
 use mathlib.Core.Bool.{cond}
 use lib.Dec.{ltb}
 use lib.ListN.{length, take, drop, replicate}
 use Rattle.cells.specs.Cells.{Cell, over}
+use Rattle.cells.specs.Check.{codeCount, eventCount}
 use Rattle.cells.specs.Table.{Row, rows, total}
-use Rattle.packed.specs.Form.{Role, promise, roleOf, dueBehind, size}
+use Rattle.packed.specs.Form.{Role, Head, Code, promise, roleOf, dueBehind, size}
 use Rattle.packed.specs.Reading.{Result, bytes, refused, ends, padded, nextCell, readCell}
 use Rattle.packed.specs.declared.form.Next.{Next}
+use Rattle.packed.specs.declared.keep.Counted.{Counted}
 use Rattle.packed.specs.declared.Packing.{Packing}
 use Rattle.packed.specs.declared.Packing.the-variants.{Bytes, Refused, Ends}
 
@@ -24,6 +26,12 @@ pub record NextCell (code events : ℕ) (s : List ℕ) (r : Next) : Type 0 where
   pub due : promise (r .code) (r .events) ≡ dueBehind (promise code events) s
 
 -- ---- packing
+
+-- what is counted at once where the cell c is next: this; or all the events that are promised
+abbrev pub countedAt : ℕ → ℕ → Cell → Counted
+countedAt (suc n) m c = record { cells = 1; size = size Code c; code = n; events = m }
+countedAt zero (suc m) c = record { cells = suc m; size = 15 * suc m; code = 0; events = 0 }
+countedAt zero zero c = record { cells = 1; size = size Head c; code = codeCount c; events = eventCount c }
 
 -- the whole cell over the start of an output, where it has room; else its first k bytes
 abbrev pub putKept : Cell → ℕ → List ℕ → List ℕ

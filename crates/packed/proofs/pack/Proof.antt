@@ -27,7 +27,7 @@ short : (c : tie.After-enum-told) → length (now (c .before .before .before .be
 short c = image-good (now (c .before .before .before .before .before .args .image)) .0 (good c) .short
 
 length-kept-requires : tie.Need-length-kept-requires
-length-kept-requires c κs = (c .before .sizes .ensures, short (c .before .before))
+length-kept-requires c κs = (c .before .sizes .ensures, good (c .before .before))
 
 returns-2 : tie.Need-returns-2
 returns-2 c =

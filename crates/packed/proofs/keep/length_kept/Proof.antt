@@ -1,9 +1,13 @@
 -- `packed::keep::length_kept` meets its contract.
-use Prim.Native.Nat.{_+_, _-_, _*_, _≤_}
+use Prim.Native.Nat.{_+_, _-_, _*_, _/_, _≤_}
 use native.Mathlib.Omega.{arith}
 use denote.Ref.{now}
-use Rattle.packed.specs.Form.{promise, roleOf}
-use Rattle.packed.proofs.Turns.{cellIn, in-cells, in-full, in-kept, Counting, counting-none, counting-next, counting-end}
+use lib.ListN.{length, drop, length-drop}
+use Rattle.cells.specs.Cells.{cells}
+use Rattle.cells.proofs.Cells.{length-cells}
+use Rattle.image.proofs.Good.{image-good}
+use Rattle.packed.proofs.Turns.{cellIn, in-cells, in-full}
+use Rattle.packed.proofs.Counts.{Counting, counting-none, promised-there, counting-turn, counted-there, counting-end}
 use borrow.Author.Needs.{needs}
 use Rattle.packed.proofs.keep.length_kept.Statement.{statement}
 use Rattle.packed.proofs.keep.length_kept.Tie as tie
@@ -15,28 +19,34 @@ abbrev μ-loop : tie.MeasureT-loop
 μ-loop sizes image n code₀ events₀ total₀ i₀ code events total i = n - i
 
 loop-holds : tie.Need-loop-holds Inv-loop μ-loop
-loop-holds c = (omega arith, omega arith, counting-none (now (c .before .before .args .image)))
+loop-holds c =
+    let a = c .before .before in
+    let s = now (a .args .image) in
+    (omega arith, omega arith, counting-none s (image-good s .0 (a .pre .1)))
 
-next-cell-requires : tie.Need-next-cell-requires Inv-loop μ-loop
-next-cell-requires c κs =
+count-next-requires : tie.Need-count-next-requires Inv-loop μ-loop
+count-next-requires c κs =
     let a = c .before .before .before .before .before in
     let l = c .before .before .loop in
-    (a .pre .0, in-kept (roleOf (promise (l .code) (l .events))) (now (a .args .image)) (l .i) (c .before .loop-test .taken))
+    let s = now (a .args .image) in (
+      a .pre .0,
+      in-full s (l .i) (c .before .loop-test .taken),
+      omega (arith, promised-there (l .code) (l .events) (drop (l .i) (cells s)) (l .inv .2 .fine), length-drop (l .i) (cells s), length-cells s, image-good s .0 (a .pre .1) .short),
+    )
 
--- past the cell at i
-next : (c : tie.After-struct-known Inv-loop μ-loop) → Counting (now (c .before .before .before .before .before .before .before .args .image)) (c .before .next-cell .result .code) (c .before .next-cell .result .events) (c .before .before .before .before .loop .total + c .before .next-cell .result .size) (c .before .before .before .before .loop .i + 1)
+-- past what was counted
+next : (c : tie.After-struct-known Inv-loop μ-loop) → Counting (now (c .before .before .before .before .before .before .before .args .image)) (c .before .count-next .result .code) (c .before .count-next .result .events) (c .before .before .before .before .loop .total + c .before .count-next .result .size) (c .before .before .before .before .loop .i + c .before .count-next .result .cells)
 next c =
-    let a = c .before .before .before .before .before .before .before .args in
     let l = c .before .before .before .before .loop in
-    let s = now (a .image) in
+    let s = now (c .before .before .before .before .before .before .before .args .image) in
     let h = c .before .before .before .loop-test .taken in
-    counting-next s (l .code) (l .events) (l .total) (l .i) (l .inv .2) (cellIn s (l .i)) (c .before .next-cell .result) h (in-cells s (l .i) h) (in-full s (l .i) h) (c .before .next-cell .ensures)
+    rw (c .before .count-next .ensures) (counting-turn s (l .code) (l .events) (l .total) (l .i) (l .inv .2) (cellIn s (l .i)) h (in-cells s (l .i) h))
 
-add-total : tie.Need-add-total Inv-loop μ-loop
-add-total c = omega (arith, next c .small, c .before .before .before .loop-test .taken)
-
-loop-again : tie.Need-loop-again Inv-loop μ-loop
-loop-again c = let k = next c in (omega arith, k .small, k)
+there : (c : tie.After-struct-known Inv-loop μ-loop) → (c .before .before .before .before .loop .i + c .before .count-next .result .cells ≤ length (now (c .before .before .before .before .before .before .before .args .image)) / 16) × (1 ≤ c .before .count-next .result .cells)
+there c =
+    let l = c .before .before .before .before .loop in
+    let s = now (c .before .before .before .before .before .before .before .args .image) in
+    rw (c .before .count-next .ensures) (counted-there s (l .code) (l .events) (l .total) (l .i) (l .inv .2) (cellIn s (l .i)) (c .before .before .before .loop-test .taken))
 
 returns : tie.Need-returns Inv-loop μ-loop
 returns c = let l = c .before .loop in counting-end (now (c .before .before .before .before .args .image)) (l .code) (l .events) (l .total) (l .i) (l .inv .2) (c .loop-test .left)
@@ -53,9 +63,9 @@ length-kept-spec =
     (λ c. search needs)
     (λ c. search needs)
     (λ c. search needs)
-    next-cell-requires
-    add-total
-    (λ c. search needs)
-    (λ c. search needs)
-    loop-again
+    count-next-requires
+    (λ c. omega (arith, next c .small, there c .0))
+    (λ c. omega (arith, there (c .before) .0))
+    (λ c. omega (arith, there (c .before) .0, there (c .before) .1))
+    (λ c. let k = next (c .before) in (there (c .before) .0, k .small, k))
     returns)
