@@ -20,6 +20,7 @@ use Rattle.passes.specs.declared.Pass.the-variants.{Both}
 use Rattle.passes.specs.declared.Rewrite.the-variants.{Refused}
 use Rattle.passes.proofs.Checked.{check-long}
 use Rattle.matchdesk.specs.Program.{resultTexts, programTexts, LongInputs}
+use Rattle.matchdesk.specs.declared.Job.{Job}
 use Rattle.matchdesk.specs.declared.Job.the-variants.{Rewrite as RewriteJob, Bytes, Check, Pages, Pack, Unpack}
 
 answer-long : (p : Pass) (image : List ℕ) → maxImage < length image → passAnswer p image maxImage ≡ Refused Length
@@ -37,11 +38,29 @@ pack-long image h = simp (lt-leb _ _ h)
 unpack-long : (s t : List ℕ) → take maxImage s ≡ take maxImage t → unpackResult s ≡ unpackResult t
 unpack-long s t e = sym (first-bytes-decide s maxImage (omega arith)) ∙ ap unpackResult e ∙ first-bytes-decide t maxImage (omega arith)
 
+-- an image so long is refused, whatever its bytes are
+abbrev pub ReadsImage : Job → Type 0
+ReadsImage (RewriteJob rules) = Unit {0}
+ReadsImage Bytes = Unit {0}
+ReadsImage Check = Unit {0}
+ReadsImage Pages = Unit {0}
+ReadsImage Pack = Unit {0}
+ReadsImage Unpack = ⊥
+
+pub images-long : (job : Job) (s t : List ℕ) → ReadsImage job → maxImage < length s → maxImage < length t → programTexts job s ≡ programTexts job t
+unfolding programTexts
+images-long (RewriteJob rules) s t r h k = rw (answer-long (Both rules) s h, answer-long (Both rules) t k)
+images-long Bytes s t r h k = rw (answer-long (Both Default) s h, answer-long (Both Default) t k)
+images-long Check s t r h k = rw (site-long s h, site-long t k)
+images-long Pages s t r h k = rw (site-long s h, site-long t k)
+images-long Pack s t r h k = rw (pack-long s h, pack-long t k)
+images-long Unpack s t r h k = absurd r
+
 pub long-inputs : LongInputs
 unfolding programTexts
-long-inputs (RewriteJob rules) s t h k e = rw (answer-long (Both rules) s h, answer-long (Both rules) t k)
-long-inputs Bytes s t h k e = rw (answer-long (Both Default) s h, answer-long (Both Default) t k)
-long-inputs Check s t h k e = rw (site-long s h, site-long t k)
-long-inputs Pages s t h k e = rw (site-long s h, site-long t k)
-long-inputs Pack s t h k e = rw (pack-long s h, pack-long t k)
+long-inputs (RewriteJob rules) s t h k e = images-long (RewriteJob rules) t s tt k h
+long-inputs Bytes s t h k e = images-long Bytes t s tt k h
+long-inputs Check s t h k e = images-long Check t s tt k h
+long-inputs Pages s t h k e = images-long Pages t s tt k h
+long-inputs Pack s t h k e = images-long Pack t s tt k h
 long-inputs Unpack s t h k e = ap resultTexts (unpack-long t s e)
