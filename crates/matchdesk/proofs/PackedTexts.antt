@@ -1,12 +1,11 @@
 -- What the contracts of `pack` and `unpack` give the program: the bytes, or the refusal; its buffer is never too short.
-use mathlib.Core.Path.{_≡_, refl, sym, _∙_, ap}
-use mathlib.Core.List.{List, []}
+use mathlib.Core.Path.{_≡_, refl, _∙_, ap}
+use mathlib.Core.List.{List}
 use Prim.Native.Nat.{ℕ, _≤_}
 use native.Mathlib.Omega.{arith}
 use borrow.Author.Tests.{le-leb}
 use lib.ListN.{length}
 use Rattle.io.specs.Counts.{Counts}
-use Rattle.cells.specs.Cells.{over}
 use Rattle.cells.specs.Check.{maxImage}
 use Rattle.cells.specs.declared.refusal.Checked.{Checked}
 use Rattle.cells.specs.declared.refusal.Checked.the-variants.{Good, Refused as RefusedBy}
@@ -18,7 +17,7 @@ use Rattle.packed.specs.Form.{packed}
 use Rattle.packed.specs.Reading.{Result, bytes, refused, ends, ifGood, unpacked}
 use Rattle.packed.specs.Operations.{packResult, unpackResult, answerOf, outputOf, lengthWritten, Done}
 use Rattle.packed.specs.declared.Packing.{Packing}
-use Rattle.packed.specs.declared.Packing.the-variants.{Bytes, Refused, Ends}
+use Rattle.packed.specs.declared.Packing.the-variants.{Bytes, Refused}
 use Rattle.packed.proofs.Undo.{packed-unpacked, packed-shorter}
 use Rattle.matchdesk.specs.Program.{resultTexts}
 use Rattle.matchdesk.specs.Contracts.{faultText, Says}
