@@ -34,6 +34,8 @@ pub fn rows(time: Duration) -> bool {
     images.push(("every command", every_command()));
     images.push(("each command once", each_command_once()));
     images.push(("printed example", printed_example()));
+    images.push(("a load", generate::one_function(&[load_i32(1, 5)], &[])));
+    images.push(("a head", generate::one_function(&[], &[])));
     let mut largest = [("", 0.0), ("", 0.0)];
     for (name, image) in &images {
         let ratios = row(time, name, image);
