@@ -1057,15 +1057,16 @@ def page_calls(image, answer):
         yield from (record(PAGES, refusal=(30, 0, 0), room=room) for room in (length - 1, n, 0))
 
 
-def packing_calls(operation, answer):
-    """The calls of `pack` and of `unpack`: lent as much as the result, a byte and a cell more; and a byte less, and nothing, which refuse 5 after
-    all else. Where that is refused: lent nothing, and as much as the longest image."""
+def packing_calls(operation, image, answer):
+    """The calls of `pack` and of `unpack`: lent as much as the result, a byte and a cell more, for `pack` also as much as the image; and a byte
+    less, and nothing, which refuse 5 after all else. Where that is refused: lent nothing, and as much as the longest image."""
     if len(answer) == 3:
         yield from (record(operation, refusal=answer, room=room) for room in (0, 65536))
         return
     length = runs(answer[0])[0]
     yield bytes_record(OUTPUT, answer[0])
-    yield from (record(operation, length=length, room=room) for room in (length, length + 1, length + 16))
+    rooms = {length, length + 1, length + 16} | ({runs(image)[0]} if operation == PACK else set())
+    yield from (record(operation, length=length, room=room) for room in sorted(rooms))
     if length:
         yield from (record(operation, refusal=(5, 0, 0), room=room) for room in (length - 1, 0))
 
@@ -1076,7 +1077,7 @@ def calls(operation, image, answer):
         yield from page_calls(image, answer)
         return
     if operation in (PACK, UNPACK):
-        yield from packing_calls(operation, answer)
+        yield from packing_calls(operation, image, answer)
         return
     n = runs(image)[0]
     rooms = [0] if operation in (IMAGE_CHECK, SITE_CHECK) else [n, n + 1, n + 16]

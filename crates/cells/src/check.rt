@@ -22,13 +22,16 @@ pub const MAX_EVENTS: usize = 1024;
 
 pub const MAX_IMAGE: usize = 65536;
 
-// The first byte of a head, and the last command.
+// The first byte of a head.
 const HEAD: u8 = 0xf0;
 
 // In how many bytes a head's name and counts end, which are any numbers.
-const HEAD_BYTES: usize = 7;
+pub const HEAD_BYTES: usize = 7;
 
-const LAST_COMMAND: usize = 0x51;
+// The last command, and the last kind of event.
+pub const LAST_COMMAND: usize = 0x51;
+
+pub const LAST_KIND: u8 = 1;
 
 // A presence byte and the value behind it.
 fn present(p: u8, v: usize) -> bool
@@ -129,7 +132,7 @@ pub fn check_event(c: &[u8], position: usize, at: usize) -> Checked
     requires { ⌜ length (now c) ≡ 16 ⌝ }
     ensures { λ r. ⌜ r ≡ eventCheck position at (now (c .entry)) ⌝ }
 {
-    if 1 < c[0] {
+    if LAST_KIND < c[0] {
         return Checked::Refused(Refusal::UnknownCommand(position, at));
     }
     unless(

@@ -18,7 +18,8 @@ use Rattle.packed.specs.Reading.{Result, bytes, refused, ends, ifGood, unpacked
 use Rattle.packed.specs.Operations.{packResult, unpackResult, answerOf, outputOf, lengthWritten, Done}
 use Rattle.packed.specs.declared.Packing.{Packing}
 use Rattle.packed.specs.declared.Packing.the-variants.{Bytes, Refused}
-use Rattle.packed.proofs.Undo.{packed-unpacked, packed-shorter}
+use Rattle.packed.proofs.Lengths.{packed-shorter}
+use Rattle.packed.proofs.Undo.{packed-unpacked}
 use Rattle.matchdesk.specs.Program.{resultTexts}
 use Rattle.matchdesk.specs.Contracts.{faultText, Says}
 use Rattle.matchdesk.specs.declared.Said.{Said}

@@ -14,9 +14,9 @@ use Rattle.packed.specs.Steps.{sizesOf, countedAt}
 use Rattle.packed.specs.declared.keep.Counted.{Counted}
 use Rattle.packed.proofs.Widths.{size-fits, head-size, event-size, keep-length}
 use Rattle.packed.proofs.Walk.{Fine}
-use Rattle.packed.proofs.Images.{image-fine}
+use Rattle.packed.proofs.Images.{image-fine, fine-run}
 use Rattle.packed.proofs.Turns.{cell-there, none-there}
-use Rattle.packed.proofs.Runs.{run}
+use Rattle.packed.proofs.Runs.{packed-run}
 
 pub record Counting (s : List ℕ) (code events total i : ℕ) : Type 0 where
   pub says : length (packed s) ≡ total + length (packFrom (promise code events) (drop i (cells s)))
@@ -30,8 +30,8 @@ counting-none s g = record { says = omega arith; fine = image-fine s g; small = 
 -- every promised cell is there
 pub promised-there : (n m : ℕ) (cs : List Cell) → Fine (promise n m) cs → n + m ≤ length cs
 promised-there n m cs f =
-    let a = run Code n (replicate m Event) cs f in
-    let b = run Event m [] (drop n cs) (rw (append-nil (replicate m Event)) (a .fine)) in
+    let a = fine-run Code n (replicate m Event) cs f in
+    let b = fine-run Event m [] (drop n cs) (rw (append-nil (replicate m Event)) (a .then)) in
     omega (arith, a .enough, b .enough, length-drop n cs)
 
 events-size : (m : ℕ) (t : List ℕ) → sizesOf Event m t ≡ 15 * m
@@ -56,12 +56,13 @@ events-turn s m total i k =
     let cs = drop i (cells s) in
     let nil = append-nil (replicate m Event) in
     let t = packFrom (replicate m Event ++ []) cs in
-    let b = run Event m [] cs (rw nil (k .fine)) in
+    let fine : Fine (replicate m Event ++ []) cs = rw nil (k .fine) in
+    let b = packed-run Event m [] cs fine in
     let e : length (packFrom (promise 0 m) cs) ≡ length t = ap (λ (q : List Role). length (packFrom q cs)) (sym nil) in
     let d : drop m cs ≡ drop (i + m) (cells s) = drop-drop m i (cells s) in
     record {
       says = omega (arith, k .says, e, events-size m t, b .fits, length-drop (sizesOf Event m t) t, ap length (b .rest), ap (λ (x : List Cell). length (packFrom [] x)) d);
-      fine = rw d at (b .fine);
+      fine = rw d at (fine-run Event m [] cs fine .then);
       small = omega (arith, k .small);
     }
 

@@ -1,4 +1,5 @@
 pub mod Widths
+pub mod Lengths
 pub mod Walk
 pub mod Images
 pub mod Parts

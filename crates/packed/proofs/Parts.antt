@@ -8,7 +8,7 @@ use lib.ListN.{length, take, drop, replicate, length-drop}
 use lib.Seq.{drop-drop}
 use Rattle.cells.specs.Cells.{Cell, cells}
 use Rattle.cells.specs.Check.{codeCount, eventCount}
-use Rattle.cells.specs.Functions.{Function, functionAt, functions, behind as past}
+use Rattle.cells.specs.Functions.{functionAt, functions, behind as past}
 use Rattle.cells.proofs.Functions.{functions-nil, functions-cons}
 use Rattle.packed.specs.Form.{Role, Head, Code, Event, promise, keep, packFrom, packed}
 use Rattle.packed.specs.Claim.{FirstByteDecides, keepAll, packFunction, packFunctions, ByFunctions}

@@ -14,37 +14,33 @@ use Rattle.packed.specs.Steps.{Room, cellsOf, sizesOf, putRestored}
 use Rattle.packed.proofs.Widths.{head-size, size-fits, half-start, keep-length, next-size, next-rest, next-back, right-zeros, cell-length}
 use Rattle.packed.proofs.Walk.{Fine, read-is}
 use Rattle.packed.proofs.Puts.{restored-cell, restored-length, rest-is}
-use Rattle.packed.proofs.Images.{fine-full}
+use Rattle.packed.proofs.Images.{fine-full, Run, fine-run}
 use Rattle.packed.proofs.Turns.{Put-part, put-part}
 
 -- ---- what right cells of a role keep, read back
 
-pub record Run (r : Role) (n : ℕ) (due : List Role) (cs : List Cell) (t : List ℕ) : Type 0 where
-  pub enough : n ≤ length cs
+pub record Packed-run (r : Role) (n : ℕ) (due : List Role) (cs : List Cell) (t : List ℕ) : Type 0 where
   pub cells-are : cellsOf r n t ≡ flat (take n cs)
   pub fits : sizesOf r n t ≤ length t
   pub rest : drop (sizesOf r n t) t ≡ packFrom due (drop n cs)
-  pub fine : Fine due (drop n cs)
 
 none-some : {r : Role} {due : List Role} → r ∷ due ≡ [] → ⊥
 none-some e = let z : _≡_ {A = ℕ} 1 0 = ap (λ (q : List Role). length (take 1 q)) e in omega arith
 
-pub run : (r : Role) (n : ℕ) (due : List Role) (cs : List Cell) → Fine (replicate n r ++ due) cs → Run r n due cs (packFrom (replicate n r ++ due) cs)
-run r zero due cs f = record { enough = omega arith; cells-are = refl; fits = omega arith; rest = refl; fine = f }
-run r (suc n) due [] f = absurd (none-some f)
-run r (suc n) due (c ∷ cs) f =
+pub packed-run : (r : Role) (n : ℕ) (due : List Role) (cs : List Cell) → Fine (replicate n r ++ due) cs → Packed-run r n due cs (packFrom (replicate n r ++ due) cs)
+packed-run r zero due cs f = record { cells-are = refl; fits = omega arith; rest = refl }
+packed-run r (suc n) due [] f = absurd (none-some f)
+packed-run r (suc n) due (c ∷ cs) f =
     let t = packFrom (replicate n r ++ due) cs in
     let s = keep r c ++ t in
     let full = f .0 .0 in
-    let k = run r n due cs (f .1) in
+    let k = packed-run r n due cs (f .1) in
     let d : drop (size r s) s ≡ t = next-rest r c full t in
     let e : sizesOf r n (drop (size r s) s) ≡ sizesOf r n t = ap (sizesOf r n) d in
     record {
-      enough = omega (arith, k .enough);
       cells-are = ap₂ (λ (x y : List ℕ). x ++ y) (next-back r c full t (right-zeros r 0 0 c (f .0 .1 0 0))) (ap (cellsOf r n) d ∙ k .cells-are);
       fits = omega (arith, e, k .fits, length-append (keep r c) t, keep-length r c full, next-size r c full t);
       rest = sym (drop-drop (sizesOf r n (drop (size r s) s)) (size r s) s) ∙ ap₂ drop e d ∙ k .rest;
-      fine = k .fine;
     }
 
 -- ---- the loop over them
@@ -167,11 +163,20 @@ module _ (s out : List ℕ) (at to : ℕ) (h : Cell) (cs : List Cell) (f : Fine 
   abbrev t₀ : List ℕ
   t₀ = packFrom (promise n₀ m₀) cs
 
-  code-run : Run Code n₀ (replicate m₀ Event) cs t₀
-  code-run = run Code n₀ (replicate m₀ Event) cs (f .1)
+  code-run : Run Code n₀ (replicate m₀ Event) cs
+  code-run = fine-run Code n₀ (replicate m₀ Event) cs (f .1)
 
-  event-run : Run Event m₀ [] (drop n₀ cs) (packFrom (replicate m₀ Event ++ []) (drop n₀ cs))
-  event-run = run Event m₀ [] (drop n₀ cs) (rw (append-nil (replicate m₀ Event)) (code-run .fine))
+  events-fine : Fine (replicate m₀ Event ++ []) (drop n₀ cs)
+  events-fine = rw (append-nil (replicate m₀ Event)) (code-run .then)
+
+  event-run : Run Event m₀ [] (drop n₀ cs)
+  event-run = fine-run Event m₀ [] (drop n₀ cs) events-fine
+
+  code-packed : Packed-run Code n₀ (replicate m₀ Event) cs t₀
+  code-packed = packed-run Code n₀ (replicate m₀ Event) cs (f .1)
+
+  events-packed : Packed-run Event m₀ [] (drop n₀ cs) (packFrom (replicate m₀ Event ++ []) (drop n₀ cs))
+  events-packed = packed-run Event m₀ [] (drop n₀ cs) events-fine
 
   head-is : padded (take 7 (drop at s)) ≡ h
   head-is =
@@ -185,17 +190,17 @@ module _ (s out : List ℕ) (at to : ℕ) (h : Cell) (cs : List Cell) (f : Fine 
 
   events-at : behindCode s at n₀ ≡ packFrom (replicate m₀ Event ++ []) (drop n₀ cs)
   events-at =
-      sym (drop-drop (sizesOf Code n₀ (behindHead s at)) (at + 7) s) ∙ ap (λ (x : List ℕ). drop (sizesOf Code n₀ x) x) code-at ∙ code-run .rest
+      sym (drop-drop (sizesOf Code n₀ (behindHead s at)) (at + 7) s) ∙ ap (λ (x : List ℕ). drop (sizesOf Code n₀ x) x) code-at ∙ code-packed .rest
       ∙ ap (λ (q : List Role). packFrom q (drop n₀ cs)) (sym (append-nil (replicate m₀ Event)))
 
   there₀ : 7 ≤ length (drop at s)
   there₀ = omega (arith, ap length p, length-append (keep Head h) t₀, keep-length Head h (f .0 .0), head-size h)
 
   code-fits₀ : sizesOf Code n₀ (behindHead s at) ≤ length (behindHead s at)
-  code-fits₀ = rw code-at (code-run .fits)
+  code-fits₀ = rw code-at (code-packed .fits)
 
   event-fits₀ : sizesOf Event m₀ (behindCode s at n₀) ≤ length (behindCode s at n₀)
-  event-fits₀ = rw events-at (event-run .fits)
+  event-fits₀ = rw events-at (events-packed .fits)
 
   cells-left : List Cell
   cells-left = drop m₀ (drop n₀ cs)
@@ -208,7 +213,7 @@ module _ (s out : List ℕ) (at to : ℕ) (h : Cell) (cs : List Cell) (f : Fine 
       let c = flat (drop m₀ (drop n₀ cs)) in
       let is : functionCells s at n₀ m₀ ≡ h ++ (a ++ b) =
       ap₂ (λ (x y : List ℕ). x ++ y) head-is
-      (ap₂ (λ (x y : List ℕ). x ++ y) (ap (cellsOf Code n₀) code-at ∙ code-run .cells-are) (ap (cellsOf Event m₀) events-at ∙ event-run .cells-are)) in
+      (ap₂ (λ (x y : List ℕ). x ++ y) (ap (cellsOf Code n₀) code-at ∙ code-packed .cells-are) (ap (cellsOf Event m₀) events-at ∙ events-packed .cells-are)) in
       let tail : b ++ c ≡ flat (drop n₀ cs) = sym (flat-append (take m₀ (drop n₀ cs)) (drop m₀ (drop n₀ cs))) ∙ ap flat (take-append-drop m₀ (drop n₀ cs)) in
       let all : a ++ flat (drop n₀ cs) ≡ flat cs = sym (flat-append (take n₀ cs) (drop n₀ cs)) ∙ ap flat (take-append-drop n₀ cs) in
       ap (λ (x : List ℕ). x ++ c) is ∙ append-assoc h (a ++ b) c ∙ ap (λ (x : List ℕ). h ++ x) (append-assoc a b c ∙ ap (λ (x : List ℕ). a ++ x) tail ∙ all)
@@ -221,8 +226,8 @@ module _ (s out : List ℕ) (at to : ℕ) (h : Cell) (cs : List Cell) (f : Fine 
     room = omega (arith, l, code-run .enough, event-run .enough, length-drop n₀ cs);
     next = λ out' same start. record {
       cs = drop m₀ (drop n₀ cs);
-      fine = event-run .fine;
-      packs = sym (event-run .rest) ∙ ap (λ (x : List ℕ). drop (sizesOf Event m₀ x) x) (sym events-at)
+      fine = event-run .then;
+      packs = sym (events-packed .rest) ∙ ap (λ (x : List ℕ). drop (sizesOf Event m₀ x) x) (sym events-at)
           ∙ drop-drop (sizesOf Event m₀ (behindCode s at n₀)) (at + 7 + sizesOf Code n₀ (behindHead s at)) s;
       says = u ∙ ap bytes (ap (λ (x : List ℕ). take to out ++ x) (sym cells-split) ∙ sym (append-assoc (take to out) (functionCells s at n₀ m₀) (flat (drop m₀ (drop n₀ cs))))
           ∙ ap (λ (x : List ℕ). x ++ flat (drop m₀ (drop n₀ cs))) (sym start));

@@ -7,11 +7,12 @@ use native.Mathlib.Numerals.{add-one}
 use native.Mathlib.Omega.{arith}
 use denote.Enum.Declared.{tagOf}
 use types.Run.{OneOf, miss}
-use lib.ListN.{length, getD, take, drop, length-append, length-take, length-drop, drop-of-length-le}
-use lib.Seq.{take-all, take-append-add, length-take-le, drop-cons, drop-drop}
-use Rattle.cells.specs.Cells.{Cell, cells}
+use lib.ListN.{length, getD, take, drop, length-append, length-take, length-drop, drop-of-length-le, take-append-drop}
+use lib.Seq.{take-append-add, drop-append-add, length-take-le, drop-cons, drop-drop}
+use Rattle.cells.specs.Cells.{Cell, cells, over}
 use Rattle.cells.specs.declared.refusal.Refusal.the-variants.{Length}
-use Rattle.cells.proofs.Cells.{length-cells, part-cell}
+use Rattle.cells.proofs.Cells.{length-cells, full-cells, part-cell}
+use Rattle.cells.proofs.Lists.{all-parts}
 use Rattle.packed.specs.Form.{Role, promise, roleOf, size, keep, packFrom, packed}
 use Rattle.packed.specs.Reading.{Result, bytes, refused, ends, andThen, finished, nextCell, readCell, nextPosition, unpackFrom, unpacked}
 use Rattle.packed.specs.Steps.{NextCell, counted, taken, putKept}
@@ -21,7 +22,8 @@ use Rattle.packed.proofs.Packing.{the-type}
 use Rattle.packed.specs.declared.Packing.the-variants.{Bytes, Refused, Ends}
 use Rattle.packed.proofs.Widths.{size-fits, keep-length, cell-length}
 use Rattle.packed.proofs.Walk.{cell-read, then-nil, then-then, later, step-done, step-full, step-more}
-use Rattle.packed.proofs.Puts.{put-start, put-length, rest-is}
+use Rattle.packed.proofs.Lengths.{pack-least}
+use Rattle.packed.proofs.Puts.{put-start, put-length, put-rest, rest-is}
 
 -- ---- the image's cell at i, `&image[16 * i..16 * i + 16]`
 
@@ -59,6 +61,7 @@ none-there s i h = drop-of-length-le (cells s) {i = i} (omega (arith, length-cel
 pub record Put-part (out part b : List ℕ) (at k : ℕ) : Type 0 where
   pub same : length (take at out ++ (part ++ drop (length out - at) (drop at out))) ≡ length out
   pub start : take (at + k) (take at out ++ (part ++ drop (length out - at) (drop at out))) ≡ take at out ++ b
+  pub rest : (m : ℕ) → drop (at + m) (take at out ++ (part ++ drop (length out - at) (drop at out))) ≡ drop m part
 
 pub put-part : (out part b : List ℕ) (at k : ℕ) → at ≤ length out → length part ≡ length (drop at out) → k ≤ length part → take k part ≡ b → Put-part out part b at k
 put-part out part b at k h n l e =
@@ -68,53 +71,81 @@ put-part out part b at k h n l e =
     record {
       same = ap length f ∙ omega (arith, length-append (take at out) part, length-drop at out);
       start = ap (take (at + k)) f ∙ ap (λ (j : ℕ). take (j + k) (take at out ++ part)) (sym m) ∙ take-append-add (take at out) part k ∙ ap (λ (t : List ℕ). take at out ++ t) e;
+      rest = λ j. ap (drop (at + j)) f ∙ ap (λ (i : ℕ). drop (i + j) (take at out ++ part)) (sym m) ∙ drop-append-add (take at out) part j;
     }
 
 -- ---- the bytes kept
 
-pub record Keeping (s out : List ℕ) (code events at i : ℕ) : Type 0 where
+pub record Keeping (s out₀ out : List ℕ) (code events at i : ℕ) : Type 0 where
   pub says : packed s ≡ take at out ++ packFrom (promise code events) (drop i (cells s))
-  pub long : length out ≡ length (packed s)
+  -- what stands behind the packed form is as it was
+  pub stays : drop (length (packed s)) out ≡ drop (length (packed s)) out₀
+  pub long : length out ≡ length out₀
+  pub fits : length (packed s) ≤ length out₀
   pub within : at ≤ length out
 
-pub keeping-none : (s out : List ℕ) → length out ≡ length (packed s) → Keeping s out 0 0 0 0
+pub keeping-none : (s out : List ℕ) → length (packed s) ≤ length out → Keeping s out out 0 0 0 0
 unfolding packed
-keeping-none s out e = record { says = refl; long = e; within = omega arith }
+keeping-none s out l = record { says = refl; stays = refl; long = refl; fits = l; within = omega arith }
 
-module _ (s out : List ℕ) (code events at i : ℕ) (k : Keeping s out code events at i) where
+module _ (s out₀ out : List ℕ) (code events at i : ℕ) (k : Keeping s out₀ out code events at i) where
+  -- how many bytes are kept in all
+  kept-all : length (packed s) ≡ at + length (packFrom (promise code events) (drop i (cells s)))
+  kept-all =
+      omega (arith, ap length (k .says), length-append (take at out) (packFrom (promise code events) (drop i (cells s))), length-take-le at out (k .within))
+
+  -- the cells that are left keep a byte each
+  kept-least : at + (length s / 16 - i) ≤ length (packed s)
+  kept-least =
+      let full = all-parts (λ (d : Cell). length d ≡ 16) (take i (cells s)) (drop i (cells s)) (rw (take-append-drop i (cells s)) (full-cells s)) .1 in
+      omega (arith, kept-all, pack-least (promise code events) (drop i (cells s)) full, length-drop i (cells s), length-cells s)
+
   module _ (c : Cell) (r : Next) (h : i < length s / 16) (is : c ≡ getD (cells s) i []) (full : length c ≡ 16) (n : NextCell code events c r) where
-    -- there is room for what the cell keeps
-    pub keeping-room : at + r .size ≤ length out
-    keeping-room =
+    kept-room : at + r .size ≤ length (packed s)
+    kept-room =
         let role = roleOf (promise code events) in
         let rest = packFrom (promise (r .code) (r .events)) (drop (i + 1) (cells s)) in
-        let e = ap length (k .says) ∙ length-append (take at out) (packFrom (promise code events) (drop i (cells s))) in
-        let f = ap length (kept-on s i c h is code events r n) ∙ length-append (keep role c) rest in
-        omega (arith, k .long, e, f, length-take-le at out (k .within), keep-length role c full, n .keeps)
+        omega (arith, kept-all, ap length (kept-on s i c h is code events r n), length-append (keep role c) rest, keep-length role c full, n .keeps)
 
-    pub keeping-next : (part : List ℕ) → part ≡ putKept c (r .size) (take (length out - at) (drop at out))
-        → Keeping s (take at out ++ (part ++ drop (length out - at) (drop at out))) (r .code) (r .events) (at + r .size) (i + 1)
+    -- there is room for what the cell keeps; and for the whole cell, where 16 or more are left
+    pub keeping-room : at + r .size ≤ length out
+    keeping-room = omega (arith, kept-room, k .fits, k .long)
+
+    pub keeping-whole : 16 ≤ length s / 16 - i → 16 ≤ length (drop at out)
+    keeping-whole l = omega (arith, kept-least, k .fits, k .long, length-drop at out)
+
+    pub keeping-next : (part : List ℕ) → part ≡ putKept c (r .size) (length s / 16 - i) (take (length out - at) (drop at out))
+        → Keeping s out₀ (take at out ++ (part ++ drop (length out - at) (drop at out))) (r .code) (r .events) (at + r .size) (i + 1)
     keeping-next part e =
         let role = roleOf (promise code events) in
+        let left : ℕ = length s / 16 - i in
         let few : r .size ≤ 16 = omega (arith, n .keeps, size-fits role c) in
         let room : r .size ≤ length (drop at out) = omega (arith, keeping-room, length-drop at out) in
-        let p : part ≡ putKept c (r .size) (drop at out) = e ∙ ap (putKept c (r .size)) (rest-is out at) in
-        let l : length part ≡ length (drop at out) = ap length p ∙ put-length c (r .size) (drop at out) full few room in
-        let b : take (r .size) part ≡ keep role c = ap (take (r .size)) p ∙ put-start c (r .size) (drop at out) full few room ∙ ap (λ (j : ℕ). take j c) (n .keeps) in
+        let p : part ≡ putKept c (r .size) left (drop at out) = e ∙ ap (putKept c (r .size) left) (rest-is out at) in
+        let l : length part ≡ length (drop at out) = ap length p ∙ put-length c (r .size) left (drop at out) full few room keeping-whole in
+        let b : take (r .size) part ≡ keep role c = ap (take (r .size)) p ∙ put-start c (r .size) left (drop at out) full few room keeping-whole ∙ ap (λ (j : ℕ). take j c) (n .keeps) in
         let w = put-part out part (keep role c) at (r .size) (k .within) l (omega arith) b in
+        let m : ℕ = length (packed s) - at in
+        let behind : drop m part ≡ drop m (drop at out) =
+        ap (drop m) p ∙ put-rest c (r .size) left (drop at out) full few room keeping-whole m (omega (arith, kept-room)) (λ (q : 16 ≤ left). omega (arith, kept-least)) in
+        let past : at + m ≡ length (packed s) = omega (arith, kept-room) in
         record {
           says = k .says ∙ ap (λ (t : List ℕ). take at out ++ t) (kept-on s i c h is code events r n)
               ∙ sym (append-assoc (take at out) (keep role c) (packFrom (promise (r .code) (r .events)) (drop (i + 1) (cells s))))
               ∙ ap (λ (t : List ℕ). t ++ packFrom (promise (r .code) (r .events)) (drop (i + 1) (cells s))) (sym (w .start));
+          stays = ap (λ (j : ℕ). drop j (take at out ++ (part ++ drop (length out - at) (drop at out)))) (sym past) ∙ w .rest m ∙ behind ∙ drop-drop m at out
+              ∙ ap (λ (j : ℕ). drop j out) past ∙ k .stays;
           long = w .same ∙ k .long;
+          fits = k .fits;
           within = omega (arith, w .same, keeping-room);
         }
 
-  pub keeping-end : length s / 16 ≤ i → out ≡ packed s
+  pub keeping-end : length s / 16 ≤ i → (at ≡ length (packed s)) × (out ≡ over (packed s) out₀)
+  unfolding over
   keeping-end h =
       let e : packed s ≡ take at out = k .says ∙ ap (λ (cs : List Cell). take at out ++ packFrom (promise code events) cs) (none-there s i h) ∙ append-nil (take at out) in
-      let l : length out ≤ at = omega (arith, ap length e, k .long, length-take-le at out (k .within)) in
-      sym (e ∙ take-all at out l)
+      let l : at ≡ length (packed s) = sym (ap length e ∙ length-take-le at out (k .within)) in
+      (l, sym (take-append-drop at out) ∙ ap₂ (λ (x : List ℕ) (j : ℕ). x ++ drop j out) (sym e) l ∙ ap (λ (t : List ℕ). packed s ++ t) (k .stays))
 
 -- ---- the packed cells checked
 

@@ -1,13 +1,13 @@
 -- The claims of `specs/Claim.antt`, and the contracts from what the operations answer and write.
 use mathlib.Core.Path.{_≡_, refl, ap, sym, _∙_}
-use mathlib.Core.List.{List, [], _∷_, _++_}
+use mathlib.Core.List.{List, [], _++_}
 use mathlib.Core.Bool.{true, false, true≢false}
-use Prim.Native.Nat.{ℕ, _+_, _*_, _≤_, _<_}
+use Prim.Native.Nat.{ℕ, _+_, _≤_, _<_}
 use native.Mathlib.Omega.{arith}
 use borrow.Author.Tests.{leb-true, le-leb, lt-leb}
 use lib.Dec.{leb}
-use lib.ListN.{length, take, drop, length-append, length-take}
-use Rattle.cells.specs.Cells.{Cell, cells, flat, over}
+use lib.ListN.{length, take, drop}
+use Rattle.cells.specs.Cells.{cells, over}
 use Rattle.cells.specs.declared.refusal.Checked.{Checked}
 use Rattle.cells.specs.declared.refusal.Checked.the-variants.{Good, Refused as RefusedBy}
 use Rattle.cells.specs.declared.refusal.Refusal.{Refusal}
@@ -17,14 +17,14 @@ use Rattle.cells.proofs.Facts.{by-test}
 use Rattle.cells.proofs.Over.{over-take}
 use Rattle.image.specs.Image.{imageAnswer, GoodImage}
 use Rattle.image.proofs.Good.{image-good}
-use Rattle.packed.specs.Form.{Role, roleOf, dueBehind, size, keep, packFrom, packed}
+use Rattle.packed.specs.Form.{packFrom, packed}
 use Rattle.packed.specs.Reading.{Result, bytes, refused, ends, ifGood, unpacked}
 use Rattle.packed.specs.Operations.{packResult, unpackResult, answerOf, outputOf, Done, PackDone, UnpackDone, isWritten, lengthWritten}
 use Rattle.packed.specs.Steps.{counted, Room}
 use Rattle.packed.specs.Claim.{Wrote, wrote, Writes, UnpackUndoesPack, NeverAlike, PackUndoesUnpack, OneForm, UnpackedPasses, PackNeverLonger}
 use Rattle.packed.specs.declared.Packing.{Packing}
 use Rattle.packed.specs.declared.Packing.the-variants.{Bytes, Refused, Ends}
-use Rattle.packed.proofs.Widths.{size-fits}
+use Rattle.packed.proofs.Lengths.{packed-shorter}
 use Rattle.packed.proofs.Walk.{read-back, read-is, refused-bytes}
 use Rattle.packed.proofs.Images.{image-fine, fine-image, fine-full}
 
@@ -41,18 +41,6 @@ packed-unpacked s b e =
     let r = read-is 4096 0 0 [] s b e in
     let c : cells b ≡ r .cs = ap cells (r .is) ∙ cells-flat (r .cs) (fine-full [] (r .cs) (r .fine)) in
     (rw (r .is) (fine-image (r .cs) (r .fine) (r .few)), ap (packFrom []) c ∙ r .packs)
-
-pub keep-most : (r : Role) (c : Cell) → length (keep r c) ≤ 16
-keep-most r c = omega (arith, size-fits r c, length-take (size r c) c)
-
-pub pack-most : (due : List Role) (cs : List Cell) → length (packFrom due cs) ≤ 16 * length cs
-pack-most due [] = omega arith
-pack-most due (c ∷ cs) =
-    omega (arith, length-append (keep (roleOf due) c) (packFrom (dueBehind due c) cs), keep-most (roleOf due) c, pack-most (dueBehind due c) cs)
-
-pub packed-shorter : (s : List ℕ) → length (packed s) ≤ length s
-unfolding packed
-packed-shorter s = omega (arith, pack-most [] (cells s), length-cells s)
 
 -- ---- results
 
@@ -224,16 +212,16 @@ module _ (s lent : List ℕ) where
   pub pack-too-long : imageAnswer s ≡ Good → length lent < length (packed s) → PackDone s lent lent (Refused OutputTooShort)
   pack-too-long g l = pack-done s lent lent (Refused OutputTooShort) (rw (pack-good s (image-good s .0 g)) (done-too-long (packed s) lent l))
 
-  -- into the part `&mut out[..n]`
-  pub pack-written : (n : ℕ) (part : List ℕ) → imageAnswer s ≡ Good → n ≡ length (packed s) → n ≤ length lent → part ≡ packed s → PackDone s lent (part ++ drop n lent) (Bytes n)
-  pack-written n part g e l w =
-      pack-done s lent (part ++ drop n lent) (Bytes n) (rw (pack-good s (image-good s .0 g)) (done-part (packed s) part n e l w))
+  pub pack-written : (n : ℕ) (after : List ℕ) → imageAnswer s ≡ Good → n ≡ length (packed s) → n ≤ length lent → after ≡ over (packed s) lent → PackDone s lent after (Bytes n)
+  pack-written n after g e l w =
+      pack-done s lent after (Bytes n) (rw (pack-good s (image-good s .0 g), e) (done-written (packed s) lent after (omega arith) w))
 
   pub unpack-too-long : (n : ℕ) → Bytes n ≡ counted (unpacked s) → length lent < n → UnpackDone s lent lent (Refused OutputTooShort)
   unpack-too-long n k l =
       let m = counted-room (unpacked s) n k in
       unpack-done s lent lent (Refused OutputTooShort) (rw (m .is) (done-too-long (m .image) lent (omega (arith, m .long))))
 
+  -- into the part `&mut out[..n]`
   pub unpack-written : (n : ℕ) (part : List ℕ) → unpacked s ≡ bytes part → Bytes n ≡ counted (unpacked s) → n ≤ length lent → UnpackDone s lent (part ++ drop n lent) (Bytes n)
   unpack-written n part e k l =
       let q : Bytes n ≡ Bytes (length part) = k ∙ ap counted e in

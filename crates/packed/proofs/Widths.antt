@@ -1,14 +1,15 @@
 -- The table of widths at work, for all commands, events and heads together: a cell's first byte and what it is decide how many bytes it keeps;
 -- reading back what was kept gives the cell; keeping of what was read gives the bytes; and the check sees the kept bytes alone.
 use mathlib.Core.Path.{_≡_, refl, ap, ap₂, sym, _∙_}
-use mathlib.Core.List.{List, [], _∷_, _++_, map}
+use mathlib.Core.List.{List, [], _∷_, _++_}
 use mathlib.Core.Bool.{Bool, true, false, _&&_}
-use Prim.Native.Nat.{ℕ, zero, suc, _+_, _-_, _*_, _≤_, _<_}
-use native.Mathlib.Nat.{add-assoc, add-zero}
+use Prim.Native.Nat.{ℕ, zero, suc, _+_, _-_, _*_, _/_, _%_, _^_, _≤_, _<_}
+use native.Mathlib.Nat.{add-assoc, add-zero, div-one, not-suc-le-zero}
 use native.Mathlib.Omega.{arith}
 use borrow.Author.Tests.{lt-ltb, le-leb, lt-leb, ltb-true, ltb-false, eqb-true}
 use lib.Dec.{eqb, ltb, leb, leb→le}
-use lib.ListN.{length, getD, take, drop, replicate, length-append, length-drop, length-replicate, take-append-drop, drop-of-length-le, List·getD-eq-default, List·getD-append}
+use lib.ListN.{length, take, drop, replicate, length-append, length-drop, length-replicate, take-append-drop, drop-of-length-le, List·getD-eq-default, List·getD-append}
+use lib.Pow.{shr-shr}
 use lib.Seq.{length-take-le, getD-take, getD-drop, take-at, drop-at, take-all}
 use Rattle.cells.specs.Answers.{unless}
 use Rattle.cells.specs.Bytes.{byte, half, word, zeros}
@@ -25,7 +26,7 @@ use Rattle.cells.proofs.Every.{at-any}
 use Rattle.cells.proofs.Checks.{instruction-good, event-good, head-good}
 use Rattle.packed.specs.Form.{Role, Head, Code, Event, promise, roleOf, dueBehind, rowFor, rowSize, size, keep}
 use Rattle.packed.specs.Reading.{padded, nextCell, known, cellCheck}
-use Rattle.packed.specs.Steps.{sizeTable}
+use Rattle.packed.specs.Steps.{sizeDigits}
 
 -- ---- sizes
 
@@ -36,20 +37,6 @@ rows-past k h = ap (λ (r : Row). r .operands) (List·getD-eq-default rows (row 
 pub size-past : (k : ℕ) → 84 ≤ k → 1 ≡ rowSize k
 unfolding rowSize
 size-past k h = sym (ap (λ (ks : List Kind). 1 + total ks) (rows-past k h))
-
-getD-map : (f : Row → ℕ) (rs : List Row) (k : ℕ) (a : ℕ) (b : Row) → k < length rs → getD (map f rs) k a ≡ f (getD rs k b)
-getD-map f [] k a b h = absurd (omega arith)
-getD-map f (r ∷ rs) zero a b h = refl
-getD-map f (r ∷ rs) (suc k) a b h = getD-map f rs k a b (omega arith)
-
--- the table of sizes has a size for every row
-pub size-at : (k : ℕ) (a : ℕ) → k < 84 → getD sizeTable k a ≡ rowSize k
-unfolding rows rowSize
-size-at k a h = getD-map (λ (r : Row). 1 + total (r .operands)) rows k a (row NoCommand []) h
-
-pub table-length : length sizeTable ≡ 84
-unfolding rows
-table-length = refl
 
 pub size-some : (r : Role) (s : List ℕ) → 1 ≤ size r s
 unfolding rowSize
@@ -63,10 +50,41 @@ size-within : (k : ℕ) → k < 84 → rowSize k ≤ 15
 unfolding rows keeps-few rowSize
 size-within k h = leb→le (rowSize k) 15 (at-any (row NoCommand []) keeps-few rows tt k h)
 
+row-fits : (k : ℕ) → rowSize k ≤ 15
+row-fits k = by-test (ltb k 84) (λ y. size-within k (ltb-true _ _ y)) (λ n. omega (arith, size-past k (ltb-false _ _ n)))
+
 pub size-fits : (r : Role) (s : List ℕ) → size r s ≤ 15
-size-fits r s =
-    by-test (ltb (rowFor r s) 84) (λ y. size-within (rowFor r s) (ltb-true _ _ y))
-    (λ n. omega (arith, size-past (rowFor r s) (ltb-false _ _ n)))
+size-fits r s = row-fits (rowFor r s)
+
+-- so that each is a hexadecimal digit, found at its place among others
+digit-at : (n k j : ℕ) → j < n → sizeDigits n k / 2 ^ (4 * j) % 16 ≡ rowSize (k + j)
+digit-at zero k j h = absurd (not-suc-le-zero h)
+digit-at (suc n) k zero h = omega (arith, div-one (sizeDigits (suc n) k), row-fits k, ap rowSize (add-zero k))
+digit-at (suc n) k (suc j) h =
+    let e : 4 * suc j ≡ 4 + 4 * j = omega arith in
+    let d : sizeDigits (suc n) k / 16 ≡ sizeDigits n (k + 1) = omega (arith, row-fits k) in
+    let i : k + 1 + j ≡ k + suc j = omega arith in
+    ap (λ (m : ℕ). sizeDigits (suc n) k / 2 ^ m % 16) e ∙ ap (λ (m : ℕ). m % 16) (sym (shr-shr (sizeDigits (suc n) k) 4 (4 * j)))
+    ∙ ap (λ (m : ℕ). m / 2 ^ (4 * j) % 16) d ∙ digit-at n (k + 1) j (omega arith) ∙ ap rowSize i
+
+pub size-digit : (k : ℕ) → sizeDigits 16 (16 * (k / 16)) / 2 ^ (4 * (k % 16)) % 16 ≡ rowSize k
+size-digit k =
+    let e : 16 * (k / 16) + k % 16 ≡ k = omega arith in
+    digit-at 16 (16 * (k / 16)) (k % 16) (omega arith) ∙ ap rowSize e
+
+-- past the table each is 1
+ones : ℕ → ℕ
+ones zero = 0
+ones (suc n) = 1 + 16 * ones n
+
+digits-past : (n k : ℕ) → 84 ≤ k → ones n ≡ sizeDigits n k
+unfolding ones
+digits-past zero k h = refl
+digits-past (suc n) k h = omega (arith, size-past k h, digits-past n (k + 1) (omega arith))
+
+pub sixteen-past : (k : ℕ) → 6 ≤ k → 0x1111111111111111 ≡ sizeDigits 16 (16 * k)
+unfolding ones
+sixteen-past k h = digits-past 16 (16 * k) (omega arith)
 
 pub head-size : (s : List ℕ) → size Head s ≡ 7
 unfolding rowSize rows

@@ -4,7 +4,7 @@ use mathlib.Core.Path.{_≡_, refl}
 use mathlib.Core.List.{List, [], _∷_, _++_, map}
 use Prim.Native.Nat.{ℕ, _+_, _-_}
 use lib.ListN.{length, take, replicate}
-use Rattle.cells.specs.Assembler.{cell, Head, Label, Jmp, JmpIf, Ret, RetNothing, LoadBool, LoadF64, LoadI32, LoadQ, LoadU32, AddI32, QTruthNot, Assert, Call, CallNothing, site, noSite, StoreVar, StoreVarSited, MakeRecord, Borrow, Write, function}
+use Rattle.cells.specs.Assembler.{cell, Head, Label, JmpIf, Ret, RetNothing, LoadBool, LoadF64, LoadI32, LoadQ, LoadU32, AddI32, QTruthNot, Assert, Call, CallNothing, site, noSite, StoreVar, StoreVarSited, MakeRecord, Borrow, Write, function}
 use Rattle.cells.specs.Bytes.{bytes}
 use Rattle.cells.specs.Cells.{Cell, flat, over}
 use Rattle.cells.specs.Check.{instructionCheck, eventCheck, headCheck}
@@ -14,6 +14,7 @@ use Rattle.cells.specs.Table.{rows}
 use Rattle.image.specs.Image.{imageAnswer}
 use Rattle.packed.specs.Form.{Role, Head as HeadCell, Code, Event, rowSize, keep, packed}
 use Rattle.packed.specs.Reading.{Result, readCell, unpackFrom, unpacked}
+use Rattle.packed.specs.Steps.{sizeDigits, mostKept, putKept}
 use Rattle.packed.specs.Operations.{packResult, unpackResult, answerOf, outputOf, Reply, success, refusal, replyOf}
 
 -- ---- what a cell keeps
@@ -280,3 +281,13 @@ pub last-worked :
     × (last 0 [] ≡ success 0)
 unfolding unpackFrom readCell rowSize answerOf instructionCheck eventCheck headCheck rows
 last-worked = (refl, refl, refl, refl, refl, refl, refl, refl, refl, refl, refl, refl, refl, refl, refl, refl, refl, refl, refl, refl)
+
+-- ---- inner: the sizes of rows as digits (Label 3, PulseEmit 3, Ret 4; an event 15, a head 7, then what is no command), the most that cells can keep,
+-- and a Label kept where 15 cells are left, and 16
+
+pub steps-hold : (sizeDigits 3 0x0A ≡ 0x433) × (sizeDigits 3 0x52 ≡ 0x17F) × (sizeDigits 0 0x52 ≡ 0)
+    × (map mostKept (0 ∷ 1 ∷ 2 ∷ 3 ∷ 4096 ∷ []) ≡ 0 ∷ 7 ∷ 22 ∷ 37 ∷ 61432 ∷ [])
+    × (putKept (Label 0xABCD) 3 15 (replicate 17 9) ≡ 0x0A ∷ 0xCD ∷ 0xAB ∷ replicate 14 9)
+    × (putKept (Label 0xABCD) 3 16 (replicate 17 9) ≡ 0x0A ∷ 0xCD ∷ 0xAB ∷ (replicate 13 0 ++ 9 ∷ []))
+unfolding rows rowSize over
+steps-hold = (refl, refl, refl, refl, refl, refl)

@@ -1,24 +1,23 @@
 -- Inner: what the functions inside the two operations say.
 use Prim.Native.Nat.{ℕ, zero, suc, _+_, _*_}
 use mathlib.Core.Path.{_≡_}
-use mathlib.Core.List.{List, [], _++_, map}
+use mathlib.Core.List.{List, [], _++_}
 use mathlib.Core.Bool.{cond}
 use lib.Dec.{ltb}
 use lib.ListN.{length, take, drop, replicate}
 use Rattle.cells.specs.Cells.{Cell, over}
 use Rattle.cells.specs.Check.{codeCount, eventCount}
-use Rattle.cells.specs.Table.{Row, rows, total}
-use Rattle.packed.specs.Form.{Role, Head, Code, promise, roleOf, dueBehind, size}
+use Rattle.packed.specs.Form.{Role, Head, Code, promise, roleOf, dueBehind, rowSize, size}
 use Rattle.packed.specs.Reading.{Result, bytes, refused, ends, padded, nextCell, readCell}
 use Rattle.packed.specs.declared.form.Next.{Next}
 use Rattle.packed.specs.declared.keep.Counted.{Counted}
 use Rattle.packed.specs.declared.Packing.{Packing}
 use Rattle.packed.specs.declared.Packing.the-variants.{Bytes, Refused, Ends}
 
--- how many bytes a cell of each row keeps
-abbrev pub sizeTable : List ℕ
-unfolding rows
-sizeTable = map (λ (r : Row). 1 + total (r .operands)) rows
+-- how many bytes cells of n rows keep, from the row k on: a hexadecimal digit each, the first row's the lowest
+abbrev pub sizeDigits : ℕ → ℕ → ℕ
+sizeDigits zero k = 0
+sizeDigits (suc n) k = rowSize k + 16 * sizeDigits n (k + 1)
 
 -- the next cell, where so many instruction cells and event cells are promised
 pub record NextCell (code events : ℕ) (s : List ℕ) (r : Next) : Type 0 where
@@ -33,9 +32,14 @@ countedAt (suc n) m c = record { cells = 1; size = size Code c; code = n; events
 countedAt zero (suc m) c = record { cells = suc m; size = 15 * suc m; code = 0; events = 0 }
 countedAt zero zero c = record { cells = 1; size = size Head c; code = codeCount c; events = eventCount c }
 
--- the whole cell over the start of an output, where it has room; else its first k bytes
-abbrev pub putKept : Cell → ℕ → List ℕ → List ℕ
-putKept c k out = cond (ltb (length out) 16) (over (take k c) out) (over c out)
+-- the most that n cells can keep: one head's bytes, and of the others an event's
+abbrev pub mostKept : ℕ → ℕ
+mostKept zero = 0
+mostKept (suc n) = 7 + 15 * n
+
+-- the whole cell over the start of an output, where 16 cells or more are left; else its first k bytes
+abbrev pub putKept : Cell → ℕ → ℕ → List ℕ → List ℕ
+putKept c k left out = cond (ltb left 16) (over (take k c) out) (over c out)
 
 -- ---- unpacking
 

@@ -2,8 +2,10 @@
 // bytes it is given, neither checks sites, and nothing is written before it is known that all of it is good and fits.
 pub mod form;
 mod keep;
+mod put;
 mod restore;
 
+use cells::read::CELL;
 use cells::refusal::Checked;
 use cells::refusal::Refusal;
 ghost use Rattle.packed.specs.Operations.{PackDone, UnpackDone};
@@ -16,7 +18,7 @@ pub enum Packing {
     Ends(usize, usize),
 }
 
-// Packs an image that the image check passes.
+// Packs an image that the image check passes. (Only where an output may be too short is the packed form measured.)
 pub fn pack(image: &[u8], out: &mut [u8]) -> Packing
     ensures { λ r. ⌜ PackDone (now (image .entry)) (now (out .entry)) (now (out .exit)) r ⌝ }
 {
@@ -24,27 +26,25 @@ pub fn pack(image: &[u8], out: &mut [u8]) -> Packing
     if let Checked::Refused(x) = checked {
         return Packing::Refused(x);
     }
-    let sizes = form::sizes();
-    let n = keep::length_kept(&sizes, image);
-    if out.len() < n {
-        return Packing::Refused(Refusal::OutputTooShort);
+    if out.len() < keep::most_kept(image.len() / CELL) {
+        if out.len() < keep::length_kept(image) {
+            return Packing::Refused(Refusal::OutputTooShort);
+        }
     }
-    keep::keep_cells(&sizes, image, &mut out[..n]);
-    Packing::Bytes(n)
+    Packing::Bytes(keep::keep_cells(image, out))
 }
 
 // Makes an image of its packed form.
 pub fn unpack(packed: &[u8], out: &mut [u8]) -> Packing
     ensures { λ r. ⌜ UnpackDone (now (packed .entry)) (now (out .entry)) (now (out .exit)) r ⌝ }
 {
-    let sizes = form::sizes();
-    let checked = restore::check_cells(&sizes, packed);
+    let checked = restore::check_cells(packed);
     let Packing::Bytes(n) = checked else {
         return checked;
     };
     if out.len() < n {
         return Packing::Refused(Refusal::OutputTooShort);
     }
-    restore::restore_cells(&sizes, packed, &mut out[..n]);
+    restore::restore_cells(packed, &mut out[..n]);
     Packing::Bytes(n)
 }

@@ -3,7 +3,10 @@ use crate::Packing;
 use crate::form;
 use crate::form::EVENT_SIZE;
 use crate::form::HEAD_SIZE;
+use crate::put;
 use cells::check;
+use cells::check::LAST_COMMAND;
+use cells::check::LAST_KIND;
 use cells::check::MAX_IMAGE;
 use cells::read;
 use cells::read::CELL;
@@ -12,23 +15,17 @@ use cells::refusal::Refusal;
 use cells::table;
 ghost use mathlib.Core.Path.{_≡_};
 ghost use Prim.Native.Nat.{_*_, _≤_, _<_};
-ghost use lib.ListN.{length};
+ghost use lib.ListN.{length, take};
 ghost use Rattle.cells.specs.Cells.{over};
 ghost use Rattle.packed.specs.Form.{Head, Code, Event, promise, roleOf};
 ghost use Rattle.packed.specs.Reading.{bytes, padded, finished as «finishedOf», nextPosition, unpacked};
-ghost use Rattle.packed.specs.Steps.{sizeTable, counted, takenAs, Room, cellsOf, sizesOf, putRestored};
+ghost use Rattle.packed.specs.Steps.{counted, takenAs, Room, cellsOf, sizesOf, putRestored};
 
 // Cells of the longest image.
 const MAX_CELLS: usize = MAX_IMAGE / CELL;
 
-// The last command, and the last kind of event.
-const LAST_COMMAND: usize = 0x51;
-
-const LAST_KIND: u8 = 1;
-
 // How many bytes an image has of which this is the packed form; or why it is of none.
-pub fn check_cells(sizes: &[u8], packed: &[u8]) -> Packing
-    requires { ⌜ now sizes ≡ sizeTable ⌝ }
+pub fn check_cells(packed: &[u8]) -> Packing
     ensures { λ r. ⌜ r ≡ counted (unpacked (now (packed .entry))) ⌝ }
 {
     let mut code = 0;
@@ -40,11 +37,11 @@ pub fn check_cells(sizes: &[u8], packed: &[u8]) -> Packing
         if finished(code, events, &packed[at..]) {
             return Packing::Bytes(CELL * cell);
         }
-        let next = check_next(sizes, code, events, &packed[at..], position, cell);
+        let next = check_next(code, events, &packed[at..], position, cell);
         let Packing::Bytes(k) = next else {
             return next;
         };
-        let behind = form::next_cell(sizes, code, events, &packed[at..]);
+        let behind = form::next_cell(code, events, &packed[at..]);
         code = behind.code;
         events = behind.events;
         position = position_behind(position, code, events);
@@ -85,22 +82,14 @@ fn position_behind(position: usize, code: usize, events: usize) -> usize
 }
 
 // How many bytes the cell at the start of s takes, where so many instruction cells and event cells are promised; or its fault.
-fn check_next(
-    sizes: &[u8],
-    code: usize,
-    events: usize,
-    s: &[u8],
-    position: usize,
-    cell: usize,
-) -> Packing
-    requires { ⌜ now sizes ≡ sizeTable ⌝ }
+fn check_next(code: usize, events: usize, s: &[u8], position: usize, cell: usize) -> Packing
     ensures { λ r. ⌜ r ≡ takenAs (roleOf (promise code events)) position cell (now (s .entry)) ⌝ }
 {
     if s.len() == 0 {
         return Packing::Ends(position, cell);
     }
     if code != 0 {
-        return check_instruction(sizes, s, position, cell);
+        return check_instruction(s, position, cell);
     }
     if events != 0 {
         return check_event(s, position, cell);
@@ -109,8 +98,8 @@ fn check_next(
 }
 
 // An instruction cell: 3, 32, then 4.
-fn check_instruction(sizes: &[u8], s: &[u8], position: usize, cell: usize) -> Packing
-    requires { ⌜ (now sizes ≡ sizeTable) × (0 < length (now s)) ⌝ }
+fn check_instruction(s: &[u8], position: usize, cell: usize) -> Packing
+    requires { ⌜ 0 < length (now s) ⌝ }
     ensures { λ r. ⌜ r ≡ takenAs Code position cell (now (s .entry)) ⌝ }
 {
     let command = read::wide(s[0]);
@@ -120,7 +109,7 @@ fn check_instruction(sizes: &[u8], s: &[u8], position: usize, cell: usize) -> Pa
     if LAST_COMMAND < command {
         return Packing::Refused(Refusal::UnknownCommand(position, cell));
     }
-    let k = form::size_at(sizes, command);
+    let k = form::size_at(command);
     if s.len() < k {
         return Packing::Ends(position, cell);
     }
@@ -165,8 +154,8 @@ fn check_head(s: &[u8], position: usize, cell: usize) -> Packing
 
 // The cells of a packed form that is known good, into an output that has just the room for them: of each function the head, the instructions
 // and the events.
-pub fn restore_cells(sizes: &[u8], packed: &[u8], out: &mut [u8])
-    requires { ⌜ (now sizes ≡ sizeTable) × Room (unpacked (now packed)) (length (now out)) ⌝ }
+pub fn restore_cells(packed: &[u8], out: &mut [u8])
+    requires { ⌜ Room (unpacked (now packed)) (length (now out)) ⌝ }
     ensures { λ _. ⌜ unpacked (now (packed .entry)) ≡ bytes (now (out .exit)) ⌝ }
 {
     let mut at = 0;
@@ -179,15 +168,15 @@ pub fn restore_cells(sizes: &[u8], packed: &[u8], out: &mut [u8])
         let second = first + CELL * code;
         let end = second + CELL * events;
         at += HEAD_SIZE;
-        at += restore_code(sizes, &packed[at..], code, &mut out[first..second]);
+        at += restore_code(&packed[at..], code, &mut out[first..second]);
         at += restore_events(&packed[at..], events, &mut out[second..end]);
         to = end;
     }
 }
 
 // The n instruction cells at the start of s, into an output that has just the room for them; the answer is how many bytes of s they take.
-fn restore_code(sizes: &[u8], s: &[u8], n: usize, out: &mut [u8]) -> usize
-    requires { ⌜ (now sizes ≡ sizeTable) × (sizesOf Code n (now s) ≤ length (now s)) × (length (now out) ≡ 16 * n) ⌝ }
+fn restore_code(s: &[u8], n: usize, out: &mut [u8]) -> usize
+    requires { ⌜ (sizesOf Code n (now s) ≤ length (now s)) × (length (now out) ≡ 16 * n) ⌝ }
     ensures { λ r. ⌜ (now (out .exit) ≡ cellsOf Code n (now (s .entry))) × (r ≡ sizesOf Code n (now (s .entry))) ⌝ }
 {
     let mut row = form::HEAD_ROW;
@@ -198,7 +187,7 @@ fn restore_code(sizes: &[u8], s: &[u8], n: usize, out: &mut [u8]) -> usize
         let to = CELL * i;
         let before = row;
         row = read::wide(s[at]);
-        size = form::size_again(sizes, row, before, size);
+        size = form::size_again(row, before, size);
         put_restored(&s[at..], size, &mut out[to..]);
         at += size;
         i += 1;
@@ -223,31 +212,28 @@ fn restore_events(s: &[u8], n: usize, out: &mut [u8]) -> usize
 }
 
 // The cell that keeps the first k bytes of s, over the start of an output. Where both have the bytes for it, 16 bytes are copied, and 16 zeros
-// written behind the first k: what these are too many is written over by the next cell. (Copies of 16 bytes are two instructions, one of k a
-// loop.)
+// written behind the first k: what these are too many is written over by the next cell.
 fn put_restored(s: &[u8], k: usize, out: &mut [u8])
     requires { ⌜ (k ≤ length (now s)) × (k ≤ 16) × (16 ≤ length (now out)) ⌝ }
     ensures { λ _. ⌜ now (out .exit) ≡ putRestored (now (s .entry)) k (now (out .entry)) ⌝ }
 {
     if s.len() < CELL {
-        put_exactly(&s[..k], out);
+        put_exactly(s, k, out);
     } else if out.len() < 2 * CELL {
-        put_exactly(&s[..k], out);
+        put_exactly(s, k, out);
     } else {
-        let mut whole = [0u8; CELL];
-        bytes::copy(&s[..CELL], &mut whole);
-        bytes::copy(&whole, out);
+        put::put_cell(s, out);
         let zeros = [0u8; CELL];
         bytes::copy(&zeros, &mut out[k..]);
     }
 }
 
-// The cell that keeps these bytes, over the start of an output.
-fn put_exactly(kept: &[u8], out: &mut [u8])
-    requires { ⌜ (length (now kept) ≤ 16) × (16 ≤ length (now out)) ⌝ }
-    ensures { λ _. ⌜ now (out .exit) ≡ over (padded (now (kept .entry))) (now (out .entry)) ⌝ }
+// The cell that keeps the first k bytes of s, over the start of an output.
+fn put_exactly(s: &[u8], k: usize, out: &mut [u8])
+    requires { ⌜ (k ≤ length (now s)) × (k ≤ 16) × (16 ≤ length (now out)) ⌝ }
+    ensures { λ _. ⌜ now (out .exit) ≡ over (padded (take k (now (s .entry)))) (now (out .entry)) ⌝ }
 {
     let zeros = [0u8; CELL];
     bytes::copy(&zeros, out);
-    bytes::copy(kept, out);
+    put::put_first(s, k, out);
 }

@@ -4,7 +4,7 @@
 use crate::{images, output, APART};
 use differential::answers::{Operations, Reply};
 use differential::cells::{self, MAX_EVENTS, MAX_INSTRS};
-use differential::generate::{self, computed, event, filled, load_i32, ret, store_var};
+use differential::generate::{self, computed, event, filled, label, load_i32, ret, store_var};
 use differential::legacy_lowering::byte;
 use differential::library::Library;
 use differential::random::Random;
@@ -32,10 +32,20 @@ pub fn rows(time: Duration) -> bool {
     images.push(("StoreVars", store_vars()));
     images.push(("events", events()));
     images.push(("every command", every_command()));
+    images.push(("StoreVar and event each", stores_with_events()));
     images.push(("each command once", each_command_once()));
     images.push(("printed example", printed_example()));
-    images.push(("a load", generate::one_function(&[load_i32(1, 5)], &[])));
-    images.push(("a head", generate::one_function(&[], &[])));
+    let one = generate::one_function;
+    let sited = store_var(1, Some(1), Some(1));
+    let borrow = event(0, Some(1), Some(1));
+    images.push(("two labels", one(&[label(1), label(2)], &[])));
+    images.push(("a label", one(&[label(1)], &[])));
+    images.push(("a load", one(&[load_i32(1, 5)], &[])));
+    images.push(("a StoreVar", one(&[sited], &[])));
+    images.push(("an event", one(&[], &[borrow])));
+    images.push(("two heads", [one(&[], &[]), one(&[], &[])].concat()));
+    images.push(("a head", one(&[], &[])));
+    images.push(("nothing", Vec::new()));
     let mut largest = [("", 0.0), ("", 0.0)];
     for (name, image) in &images {
         let ratios = row(time, name, image);
@@ -68,8 +78,8 @@ fn each_command_once() -> Vec<u8> {
     generate::one_function(&cells, &[])
 }
 
-/// The longest cells, with one spare byte each. The sites of these and the next two are wrong,
-/// which neither `pack` nor `unpack` looks at.
+/// The longest cells, with one spare byte each. The sites of these and the next ones are wrong, which
+/// neither `pack` nor `unpack` looks at.
 fn store_vars() -> Vec<u8> {
     images::fill(|left| {
         let sites = 0..left.min(MAX_INSTRS) as u32;
@@ -82,6 +92,16 @@ fn events() -> Vec<u8> {
         let sites = 0..left.min(MAX_EVENTS) as u32;
         let events = sites.map(|site| event((site % 2) as u8, Some(site), Some(site)));
         (Vec::new(), events.collect())
+    })
+}
+
+/// Functions of one of each.
+fn stores_with_events() -> Vec<u8> {
+    let mut site = 0;
+    images::fill(|left| {
+        site += 1;
+        let events = if left > 1 { vec![event(1, Some(site), Some(site))] } else { Vec::new() };
+        (vec![store_var(1, Some(site), Some(site))], events)
     })
 }
 
@@ -125,7 +145,7 @@ fn row(time: Duration, name: &str, image: &[u8]) -> [f64; 2] {
     assert_eq!(to_unpack, image, "{name}");
 
     let cells = image.len() / cells::CELL;
-    let times = CELLS.div_ceil(cells);
+    let times = CELLS.div_ceil(cells.max(1));
     let mut check = || assert_eq!(Library.image_check(black_box(image)), Ok(()));
     let mut pack = || {
         written(Library.pack(black_box(image), to_pack));
@@ -138,7 +158,7 @@ fn row(time: Duration, name: &str, image: &[u8]) -> [f64; 2] {
     let [check, pack, unpack] = by_turns(time, times, [&mut check, &mut pack, &mut unpack]);
     let ratios = [pack / check, unpack / check];
     println!(
-        "{name:24} {cells:>6} {check:>12.0} {pack:>12.0} {unpack:>12.0} {:>9.2} {:>9.2}",
+        "{name:24} {cells:>6} {check:>12.1} {pack:>12.1} {unpack:>12.1} {:>9.2} {:>9.2}",
         ratios[0], ratios[1]
     );
     ratios

@@ -238,14 +238,18 @@ impl Worker<'_> {
         count_of(&mut self.counts, group).pages += comparisons;
     }
 
-    /// Compares the packed form of an image, which is one or two joined, in outputs of four lengths;
-    /// and what is unpacked from it, in two, and from a damaged one.
+    /// Compares the packed form of an image, which is one or two joined, in outputs of four lengths
+    /// and in one as long as the image; and what is unpacked from it, in two, and from a damaged one.
     fn packed(&mut self, group: &'static str, part: &Part, images: &[&[u8]]) {
         let Part { image, expected } = part;
-        let lengths = four_outputs(&mut self.random);
-        let around = dirty(&mut self.random, expected.packed_length(image) + LONGER + 2 * GUARD);
+        let four = four_outputs(&mut self.random);
+        let [just, longer, shorter, none] = four;
+        let packed_length = expected.packed_length(image);
+        let lengths = [just, longer, shorter, none, (image.len() - packed_length) as isize];
+        let longest = image.len().max(packed_length + LONGER);
+        let around = dirty(&mut self.random, longest + 2 * GUARD);
         for more in lengths {
-            let length = expected.packed_length(image).saturating_add_signed(more);
+            let length = packed_length.saturating_add_signed(more);
             let around = &around[..length + 2 * GUARD];
             for subject in self.subjects {
                 if let Err(difference) = expected.check_pack(*subject, image, around) {
@@ -267,13 +271,12 @@ impl Worker<'_> {
         let Some(form) = expected.packed() else {
             return;
         };
-        let [just, longer, shorter, none] = lengths;
         let two = [self.random.pick(&[just, longer]), self.random.pick(&[shorter, none])];
         let unpacking = Unpacking { packed: form.to_vec(), answer: Ok(image.clone()) };
         self.unpack(group, &unpacking, &two);
         let mut damaged = unpacking.packed;
         forms::damage(&mut self.random, &mut damaged);
-        let more = self.random.pick(&lengths);
+        let more = self.random.pick(&four);
         self.form(group, &Unpacking::new(damaged), &[more]);
     }
 

@@ -59,6 +59,8 @@ enum Fault {
     PackWritesWhatFits,
     PackClearsTheRest,
     PackTouchesAByteBehind,
+    PackOverflowsUnmeasured,
+    PackFiveUnmeasured,
     PackWritesNothing,
     PackLengthOfTheImage,
     PackSecondIsTheCells,
@@ -149,7 +151,7 @@ enum Fault {
 }
 use Fault::*;
 
-const FAULTS: [Fault; 126] = [
+const FAULTS: [Fault; 128] = [
     WidthOf(byte::LoadF64, -1),
     WidthOf(byte::LoadBool, 1),
     WidthOf(byte::LoadText, 2),
@@ -188,6 +190,8 @@ const FAULTS: [Fault; 126] = [
     PackWritesWhatFits,
     PackClearsTheRest,
     PackTouchesAByteBehind,
+    PackOverflowsUnmeasured,
+    PackFiveUnmeasured,
     PackWritesNothing,
     PackLengthOfTheImage,
     PackSecondIsTheCells,
@@ -409,6 +413,8 @@ fn pack_answer(fault: Fault, image: &[u8], out: &mut [u8]) -> Reply {
     let room = match fault {
         PackFiveAgainstTheImage => image.len(),
         PackFiveIfItFitsJust => form.len() + 1,
+        // The most that so many cells can keep.
+        PackFiveUnmeasured if !image.is_empty() => 15 * (image.len() / CELL) - 8,
         _ => form.len(),
     };
     if out.len() < room {
@@ -421,12 +427,15 @@ fn pack_answer(fault: Fault, image: &[u8], out: &mut [u8]) -> Reply {
         }
         return TOO_SHORT;
     }
+    let as_long = out.len() >= image.len();
     let (written, rest) = out.split_at_mut(form.len());
     if fault != PackWritesNothing {
         written.copy_from_slice(&form);
     }
     match (fault, rest.first_mut()) {
         (PackTouchesAByteBehind, Some(byte)) => *byte ^= 1,
+        // What is written behind, of many cells, where the output is as long as the image.
+        (PackOverflowsUnmeasured, Some(byte)) if as_long && image.len() >= 32 * CELL => *byte ^= 1,
         (PackClearsTheRest, _) => rest.fill(0),
         _ => {}
     }

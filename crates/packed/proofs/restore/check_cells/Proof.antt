@@ -6,7 +6,7 @@ use Prim.Native.Nat.{ℕ, _-_, _≤_, _<_}
 use native.Mathlib.Omega.{arith}
 use denote.Ref.{now}
 use lib.ListN.{length, drop, length-drop}
-use Rattle.packed.specs.Form.{Role, promise, roleOf, size}
+use Rattle.packed.specs.Form.{Role, promise, roleOf}
 use Rattle.packed.specs.Reading.{finished as finishedOf}
 use Rattle.packed.specs.Steps.{takenAs, NextCell}
 use Rattle.packed.proofs.Puts.{rest-is}
@@ -16,36 +16,33 @@ use Rattle.packed.proofs.restore.check_cells.Statement.{statement}
 use Rattle.packed.proofs.restore.check_cells.Tie as tie
 
 abbrev Inv-loop : tie.InvT-loop
-Inv-loop sizes packed code₀ events₀ position₀ at₀ cell₀ code events position at cell = (cell ≤ 4096) × (position ≤ cell) × (at ≤ length packed) × Going packed code events position at cell
+Inv-loop packed code₀ events₀ position₀ at₀ cell₀ code events position at cell = (cell ≤ 4096) × (position ≤ cell) × (at ≤ length packed) × Going packed code events position at cell
 
 abbrev μ-loop : tie.MeasureT-loop
-μ-loop sizes packed code₀ events₀ position₀ at₀ cell₀ code events position at cell = 4096 - cell
+μ-loop packed code₀ events₀ position₀ at₀ cell₀ code events position at cell = 4096 - cell
 
 loop-holds : tie.Need-loop-holds Inv-loop μ-loop
-loop-holds c = (omega arith, omega arith, omega arith, going-none (now (c .before .before .args .packed)))
+loop-holds c = (omega arith, omega arith, omega arith, going-none (now (c .before .args .packed)))
 
 -- what `finished` says of the bytes that are left
-said : (k : tie.After-finished Inv-loop μ-loop) → k .finished .result ≡ finishedOf (promise (k .before .before .before .loop .code) (k .before .before .before .loop .events)) (drop (k .before .before .before .loop .at) (now (k .before .before .before .before .before .before .args .packed)))
+said : (k : tie.After-finished Inv-loop μ-loop) → k .finished .result ≡ finishedOf (promise (k .before .before .before .loop .code) (k .before .before .before .loop .events)) (drop (k .before .before .before .loop .at) (now (k .before .before .before .before .before .args .packed)))
 said k =
     let l = k .before .before .before in
-    k .finished .ensures ∙ ap (finishedOf (promise (l .loop .code) (l .loop .events))) (rest-is (now (l .before .before .before .args .packed)) (l .loop .at))
+    k .finished .ensures ∙ ap (finishedOf (promise (l .loop .code) (l .loop .events))) (rest-is (now (l .before .before .args .packed)) (l .loop .at))
 
 returns : tie.Need-returns Inv-loop μ-loop
 returns c =
     let k = c .before in
     let l = k .before .before .before in
-    let a = l .before .before .before .args in
+    let a = l .before .before .args in
     going-done (now (a .packed)) (l .loop .code) (l .loop .events) (l .loop .position) (l .loop .at) (l .loop .cell) (l .loop .inv .3) (sym (said k) ∙ c .if1 .taken)
-
-check-next-requires : tie.Need-check-next-requires Inv-loop μ-loop
-check-next-requires c κs = c .before .before .before .before .before .before .before .before .pre
 
 -- the loop's state at the cell that was checked
 abbrev At : tie.After-check-next Inv-loop μ-loop → tie.At-loop Inv-loop μ-loop
 At c = c .before .before .before .before .before .before
 
 abbrev given : tie.After-check-next Inv-loop μ-loop → List ℕ
-given c = now (At c .before .before .before .args .packed)
+given c = now (At c .before .before .args .packed)
 
 abbrev dueAt : tie.After-check-next Inv-loop μ-loop → List Role
 dueAt c = promise (At c .loop .code) (At c .loop .events)
@@ -80,7 +77,7 @@ went c =
 next-cell-requires : tie.Need-next-cell-requires Inv-loop μ-loop
 next-cell-requires c κs =
     let k = c .before .before .before .before in
-    (At k .before .before .before .pre, simp (rest-is (given k) (At k .loop .at)) (omega (arith, went (c .before) .is, went (c .before) .fits)))
+    simp (rest-is (given k) (At k .loop .at)) (omega (arith, went (c .before) .is, went (c .before) .fits))
 
 position-behind-requires : tie.Need-position-behind-requires Inv-loop μ-loop
 position-behind-requires c κs = let l = c .before .before .before .before .before .before .before .before .before .before .before .loop in omega (arith, l .inv .1, l .inv .0)
@@ -88,7 +85,7 @@ position-behind-requires c κs = let l = c .before .before .before .before .befo
 add-at : tie.Need-add-at Inv-loop μ-loop
 add-at c =
     let k = c .before .before .before .before .before .before in
-    record { fits = omega (arith, went (c .before .before .before) .fits, length-drop (At k .loop .at) (given k), At k .loop .inv .2, At k .before .before .before .good .1 .0 .0) }
+    record { fits = omega (arith, went (c .before .before .before) .fits, length-drop (At k .loop .at) (given k), At k .loop .inv .2, At k .before .before .good .0 .0) }
 
 loop-again : tie.Need-loop-again Inv-loop μ-loop
 loop-again c =
@@ -102,14 +99,14 @@ loop-again c =
 returns-3 : tie.Need-returns-3 Inv-loop μ-loop
 returns-3 c =
     let l = c .before .before .before .before in
-    let a = l .before .before .before .args in
+    let a = l .before .before .args in
     let f = c .before .finished2 .ensures ∙ ap (finishedOf (promise (l .loop .code) (l .loop .events))) (rest-is (now (a .packed)) (l .loop .at)) in
     going-done (now (a .packed)) (l .loop .code) (l .loop .events) (l .loop .position) (l .loop .at) (l .loop .cell) (l .loop .inv .3) (sym f ∙ c .if2 .taken)
 
 returns-4 : tie.Need-returns-4 Inv-loop μ-loop
 returns-4 c =
     let l = c .before .before .before .before in
-    let a = l .before .before .before .args in
+    let a = l .before .before .args in
     let f = c .before .finished2 .ensures ∙ ap (finishedOf (promise (l .loop .code) (l .loop .events))) (rest-is (now (a .packed)) (l .loop .at)) in
     going-full (now (a .packed)) (l .loop .code) (l .loop .events) (l .loop .position) (l .loop .at) (l .loop .cell) (l .loop .inv .3) (sym f ∙ c .if2 .left) (omega (arith, l .loop .inv .0, c .before .before .before .loop-test .left))
 
@@ -129,7 +126,7 @@ check-cells-spec =
     (λ c. search needs)
     (λ c. search needs)
     (λ c. search needs)
-    check-next-requires
+    (λ c κs. tt)
     (λ c. search needs)
     returns-2
     (λ c. search needs)

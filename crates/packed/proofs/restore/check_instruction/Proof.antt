@@ -20,50 +20,50 @@ use Rattle.packed.proofs.restore.check_instruction.Tie as tie
 
 returns : tie.Need-returns
 returns c =
-    let a = c .before .before .before .before .before in
-    taken-unknown Code (a .args .position) (a .args .cell) (now (a .args .s)) (a .pre .1) (zero-unknown (now (a .args .s)) _ (c .before .wide .ensures .0) (c .if1 .taken))
+    let a = c .before .before .before .before in
+    taken-unknown Code (a .args .position) (a .args .cell) (now (a .args .s)) (a .pre) (zero-unknown (now (a .args .s)) _ (c .before .wide .ensures .0) (c .if1 .taken))
 
 returns-2 : tie.Need-returns-2
 returns-2 c =
-    let a = c .before .before .before .before .before .before in
-    taken-unknown Code (a .args .position) (a .args .cell) (now (a .args .s)) (a .pre .1) (past-unknown (now (a .args .s)) _ (c .before .before .wide .ensures .0) (c .if2 .taken))
+    let a = c .before .before .before .before .before in
+    taken-unknown Code (a .args .position) (a .args .cell) (now (a .args .s)) (a .pre) (past-unknown (now (a .args .s)) _ (c .before .before .wide .ensures .0) (c .if2 .taken))
 
 -- past the tests it is a command, and its size is that of its row
-command : (c : tie.After-size-at) → known Code (now (c .before .before .before .before .before .before .before .args .s)) ≡ true
-command c = known-code (now (c .before .before .before .before .before .before .before .args .s)) _ (c .before .before .before .wide .ensures .0) (c .before .before .if1 .left) (omega (arith, c .before .if2 .left))
+command : (c : tie.After-size-at) → known Code (now (c .before .before .before .before .before .before .args .s)) ≡ true
+command c = known-code (now (c .before .before .before .before .before .before .args .s)) _ (c .before .before .before .wide .ensures .0) (c .before .before .if1 .left) (omega (arith, c .before .if2 .left))
 
-size-is : (c : tie.After-size-at) → c .size-at .result ≡ size Code (now (c .before .before .before .before .before .before .before .args .s))
+size-is : (c : tie.After-size-at) → c .size-at .result ≡ size Code (now (c .before .before .before .before .before .before .args .s))
 size-is c = c .size-at .ensures ∙ ap rowSize (c .before .before .before .wide .ensures .0)
 
 returns-3 : tie.Need-returns-3
 returns-3 c =
-    let a = c .before .before .before .before .before .before .before .before in
-    taken-cut Code (a .args .position) (a .args .cell) (now (a .args .s)) (a .pre .1) (command (c .before)) (omega (arith, size-is (c .before), c .if3 .taken))
+    let a = c .before .before .before .before .before .before .before in
+    taken-cut Code (a .args .position) (a .args .cell) (now (a .args .s)) (a .pre) (command (c .before)) (omega (arith, size-is (c .before), c .if3 .taken))
 
 operands-ok-requires : tie.Need-operands-ok-requires
 operands-ok-requires c κs =
     let k = c .before .before in
-    (taken-room (now (c .before .before .before .before .before .before .before .before .before .args .s)) (k .size-at .result) (c .before .before .before .before .before .wide .result) (c .before .if3 .left) (k .size-at .ensures), omega arith)
+    (taken-room (now (c .before .before .before .before .before .before .before .before .args .s)) (k .size-at .result) (c .before .before .before .before .before .wide .result) (c .before .if3 .left) (k .size-at .ensures), omega arith)
 
 -- the check of the cell is that of its operands
-checked : (c : tie.After-operands-ok-arg) → cellCheck Code (c .before .before .before .before .before .before .before .before .before .args .position) (c .before .before .before .before .before .before .before .before .before .args .cell) (nextCell Code (now (c .before .before .before .before .before .before .before .before .before .args .s)))
-    ≡ unless (rowOk (c .before .before .before .before .before .wide .result) (take (c .before .before .size-at .result) (now (c .before .before .before .before .before .before .before .before .before .args .s)))) (Operand (c .before .before .before .before .before .before .before .before .before .args .position) (c .before .before .before .before .before .before .before .before .before .args .cell))
+checked : (c : tie.After-operands-ok-arg) → cellCheck Code (c .before .before .before .before .before .before .before .before .args .position) (c .before .before .before .before .before .before .before .before .args .cell) (nextCell Code (now (c .before .before .before .before .before .before .before .before .args .s)))
+    ≡ unless (rowOk (c .before .before .before .before .before .wide .result) (take (c .before .before .size-at .result) (now (c .before .before .before .before .before .before .before .before .args .s)))) (Operand (c .before .before .before .before .before .before .before .before .args .position) (c .before .before .before .before .before .before .before .before .args .cell))
 checked c =
-    code-taken (c .before .before .before .before .before .before .before .before .before .args .position) (c .before .before .before .before .before .before .before .before .before .args .cell) (now (c .before .before .before .before .before .before .before .before .before .args .s)) (c .before .before .size-at .result) (c .before .if3 .left)
+    code-taken (c .before .before .before .before .before .before .before .before .args .position) (c .before .before .before .before .before .before .before .before .args .cell) (now (c .before .before .before .before .before .before .before .before .args .s)) (c .before .before .size-at .result) (c .before .if3 .left)
     (c .before .before .before .before .before .wide .result) (size-is (c .before .before)) (c .before .before .before .before .before .wide .ensures .0) (command (c .before .before))
 
-fits : (c : tie.After-operands-ok-arg) → size Code (now (c .before .before .before .before .before .before .before .before .before .args .s)) ≤ length (now (c .before .before .before .before .before .before .before .before .before .args .s))
+fits : (c : tie.After-operands-ok-arg) → size Code (now (c .before .before .before .before .before .before .before .before .args .s)) ≤ length (now (c .before .before .before .before .before .before .before .before .args .s))
 fits c = omega (arith, size-is (c .before .before), c .before .if3 .left)
 
 returns-4 : tie.Need-returns-4
 returns-4 c =
-    let a = c .before .before .before .before .before .before .before .before .before .before .before .args in
+    let a = c .before .before .before .before .before .before .before .before .before .before .args in
     let k = c .before .before in
     taken-unfit Code (a .position) (a .cell) (now (a .s)) (command (k .before .before)) (fits k) _ _ (checked k) (sym (c .before .operands-ok .ensures) ∙ not-true _ (c .if4 .taken))
 
 returns-5 : tie.Need-returns-5
 returns-5 c =
-    let a = c .before .before .before .before .before .before .before .before .before .before .before .args in
+    let a = c .before .before .before .before .before .before .before .before .before .before .args in
     let k = c .before .before in
     taken-fit Code (a .position) (a .cell) (now (a .s)) (command (k .before .before)) (fits k) _ _ (checked k) (sym (c .before .operands-ok .ensures) ∙ not-false _ (c .if4 .left)) _ (size-is (k .before .before))
 

@@ -17,19 +17,19 @@ use Rattle.packed.proofs.restore.restore_cells.Statement.{statement}
 use Rattle.packed.proofs.restore.restore_cells.Tie as tie
 
 abbrev Inv-loop : tie.InvT-loop
-Inv-loop sizes packed out₀ at₀ to₀ out at to = (length out ≡ length out₀) × (to ≤ length out) × (at ≤ length packed) × Restoring packed out at to
+Inv-loop packed out₀ at₀ to₀ out at to = (length out ≡ length out₀) × (to ≤ length out) × (at ≤ length packed) × Restoring packed out at to
 
 abbrev μ-loop : tie.MeasureT-loop
-μ-loop sizes packed out₀ at₀ to₀ out at to = length out - to
+μ-loop packed out₀ at₀ to₀ out at to = length out - to
 
 loop-holds : tie.Need-loop-holds Inv-loop μ-loop
 loop-holds c =
-    let a = c .before .before .before in
-    (refl, omega arith, omega arith, restoring-none (now (a .args .packed)) (now (a .args .out)) (a .pre .1))
+    let a = c .before .before in
+    (refl, omega arith, omega arith, restoring-none (now (a .args .packed)) (now (a .args .out)) (a .pre))
 
 -- in a turn: the bytes given, and those that are left
 abbrev given : tie.At-loop Inv-loop μ-loop → List ℕ
-given c = now (c .before .before .before .before .args .packed)
+given c = now (c .before .before .before .args .packed)
 
 abbrev leftAt : tie.At-loop Inv-loop μ-loop → List ℕ
 leftAt c = drop (c .loop .at) (given c)
@@ -70,7 +70,7 @@ restore-code-requires : tie.Need-restore-code-requires Inv-loop μ-loop
 restore-code-requires c κs =
     let h = c .before .before in
     let l = c .before .before .before .before .before .before .before .before .before .before .before .before in
-    (l .before .before .before .before .pre .0, rw (rest-is (given l) (l .loop .at + 7)) (function h .code-fits), code-room (given l) (l .loop .out) (l .loop .at) (l .loop .to) _ _ (function h) _ (head h))
+    (rw (rest-is (given l) (l .loop .at + 7)) (function h .code-fits), code-room (given l) (l .loop .out) (l .loop .at) (l .loop .to) _ _ (function h) _ (head h))
 
 returns : tie.Need-returns Inv-loop μ-loop
 returns c =
@@ -81,7 +81,7 @@ returns c =
 took : (c : tie.After-slice-known3 Inv-loop μ-loop) → c .before .before .restore-code .result ≡ sizesOf Code (c .before .before .before .before .before .before .before .half .result) (behindHead (given (c .before .before .before .before .before .before .before .before .before .before .before .before .before .before .before)) (c .before .before .before .before .before .before .before .before .before .before .before .before .before .before .before .loop .at))
 took c = let l = c .before .before .before .before .before .before .before .before .before .before .before .before .before .before .before in c .before .before .restore-code .ensures .1 ∙ ap (sizesOf Code (c .before .before .before .before .before .before .before .half .result)) (rest-is (given l) (l .loop .at + 7))
 
-code-cells : (c : tie.After-slice-known3 Inv-loop μ-loop) → c .before .before .restore-code .last .1 .1 .1 .0 ≡ cellsOf Code (c .before .before .before .before .before .before .before .half .result) (behindHead (given (c .before .before .before .before .before .before .before .before .before .before .before .before .before .before .before)) (c .before .before .before .before .before .before .before .before .before .before .before .before .before .before .before .loop .at))
+code-cells : (c : tie.After-slice-known3 Inv-loop μ-loop) → c .before .before .restore-code .last .1 .1 .0 ≡ cellsOf Code (c .before .before .before .before .before .before .before .half .result) (behindHead (given (c .before .before .before .before .before .before .before .before .before .before .before .before .before .before .before)) (c .before .before .before .before .before .before .before .before .before .before .before .before .before .before .before .loop .at))
 code-cells c = let l = c .before .before .before .before .before .before .before .before .before .before .before .before .before .before .before in c .before .before .restore-code .ensures .0 ∙ ap (cellsOf Code (c .before .before .before .before .before .before .before .half .result)) (rest-is (given l) (l .loop .at + 7))
 
 behind-code : (c : tie.After-slice-known3 Inv-loop μ-loop) → c .before .before .before .before .before .before .before .before .before .before .before .before .before .before .before .loop .at + 7 + c .before .before .restore-code .result ≤ length (given (c .before .before .before .before .before .before .before .before .before .before .before .before .before .before .before))
@@ -161,7 +161,7 @@ restore-cells-spec =
     (λ c. search needs)
     (λ c. let l = c .before .before .before .before .before .before .before .before .before .before .before in first-room (given l) (l .loop .out) (l .loop .at) (l .loop .to) _ _ (function (c .before)) _ (head (c .before)))
     restore-code-requires
-    (λ c. record { fits = omega (arith, behind-code c, c .before .before .before .before .before .before .before .before .before .before .before .before .before .before .before .before .before .before .before .good .1 .0 .0) })
+    (λ c. record { fits = omega (arith, behind-code c, c .before .before .before .before .before .before .before .before .before .before .before .before .before .before .before .before .before .before .good .1 .0 .0) })
     behind-code
     behind-code
     (λ c. search needs)
@@ -169,7 +169,7 @@ restore-cells-spec =
     (λ c. search needs)
     (λ c. let l = c .before .before .before .before .before .before .before .before .before .before .before .before .before .before .before .before in second-room (given l) (l .loop .out) (l .loop .at) (l .loop .to) _ _ (function (c .before .before .before .before .before .before)) _ (head (c .before .before .before .before .before .before)) _ (code-cells (c .before)))
     restore-events-requires
-    (λ c. record { fits = omega (arith, behind-all c, c .before .before .before .before .before .before .before .before .before .before .before .before .before .before .before .before .before .before .before .before .before .before .before .before .good .1 .0 .0) })
+    (λ c. record { fits = omega (arith, behind-all c, c .before .before .before .before .before .before .before .before .before .before .before .before .before .before .before .before .before .before .before .before .before .before .before .good .1 .0 .0) })
     loop-less
     loop-again
     (λ c. search needs)

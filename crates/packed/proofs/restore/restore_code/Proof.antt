@@ -14,19 +14,19 @@ use Rattle.packed.proofs.restore.restore_code.Statement.{statement}
 use Rattle.packed.proofs.restore.restore_code.Tie as tie
 
 abbrev Inv-loop : tie.InvT-loop
-Inv-loop sizes s n out₀ row₀ size₀ at₀ i₀ out row size at i =
+Inv-loop s n out₀ row₀ size₀ at₀ i₀ out row size at i =
     (i ≤ n) × (length out ≡ length out₀) × (at ≤ length s) × (size ≡ rowSize row) × Running Code s out n at i
 
 abbrev μ-loop : tie.MeasureT-loop
-μ-loop sizes s n out₀ row₀ size₀ at₀ i₀ out row size at i = n - i
+μ-loop s n out₀ row₀ size₀ at₀ i₀ out row size at i = n - i
 
 loop-holds : tie.Need-loop-holds Inv-loop μ-loop
 loop-holds c =
-    let a = c .before .before .before in
-    (omega arith, refl, omega arith, sym (head-size []), running-none Code (now (a .args .s)) (now (a .args .out)) (a .args .n) (a .pre .1) (a .pre .2))
+    let a = c .before .before in
+    (omega arith, refl, omega arith, sym (head-size []), running-none Code (now (a .args .s)) (now (a .args .out)) (a .args .n) (a .pre .0) (a .pre .1))
 
 abbrev given : tie.At-loop Inv-loop μ-loop → List ℕ
-given c = now (c .before .before .before .before .args .s)
+given c = now (c .before .before .before .args .s)
 
 abbrev leftAt : tie.At-loop Inv-loop μ-loop → List ℕ
 leftAt c = drop (c .loop .at) (given c)
@@ -35,7 +35,7 @@ shared-slice-read-wide : tie.Need-shared-slice-read-wide Inv-loop μ-loop
 shared-slice-read-wide c =
     let l = c .before .before in
     let v = l .loop in
-    omega (arith, running-there Code (given l) (v .out) (l .before .before .before .before .args .n) (v .at) (v .i) (v .inv .4) (c .before .loop-test .taken), size-some Code (leftAt l))
+    omega (arith, running-there Code (given l) (v .out) (l .before .before .before .args .n) (v .at) (v .i) (v .inv .4) (c .before .loop-test .taken), size-some Code (leftAt l))
 
 size-is : (c : tie.After-size-again Inv-loop μ-loop) → c .size-again .result ≡ sizeOf Code (leftAt (c .before .before .before .before))
 size-is c = let l = c .before .before .before .before in c .size-again .ensures ∙ ap rowSize (c .before .wide .ensures .0 ∙ sym (first-left (given l) (l .loop .at)))
@@ -46,17 +46,17 @@ put-restored-requires c κs =
     let l = c .before .before .before .before .before .before in
     let v = l .loop in
     let h = c .before .before .before .before .before .loop-test .taken in
-    let k = running-some Code (given l) (v .out) (l .before .before .before .before .args .n) (v .at) (v .i) (v .inv .4) h in (
+    let k = running-some Code (given l) (v .out) (l .before .before .before .args .n) (v .at) (v .i) (v .inv .4) h in (
       rw (rest-is (given l) (v .at)) (omega (arith, k, size-is n)),
       omega (arith, size-is n, size-fits Code (leftAt l)),
-      rw (rest-is (v .out) (16 * v .i)) (running-room Code (given l) (v .out) (l .before .before .before .before .args .n) (v .at) (v .i) (v .inv .4) h),
+      rw (rest-is (v .out) (16 * v .i)) (running-room Code (given l) (v .out) (l .before .before .before .args .n) (v .at) (v .i) (v .inv .4) h),
     )
 
 there : (c : tie.After-slice-known2 Inv-loop μ-loop) → c .before .before .before .before .before .before .before .before .before .loop .at + c .before .before .before .before .before .size-again .result ≤ length (given (c .before .before .before .before .before .before .before .before .before))
 there c =
     let l = c .before .before .before .before .before .before .before .before .before in
     let v = l .loop in
-    omega (arith, running-there Code (given l) (v .out) (l .before .before .before .before .args .n) (v .at) (v .i) (v .inv .4) (c .before .before .before .before .before .before .before .before .loop-test .taken), size-is (c .before .before .before .before .before))
+    omega (arith, running-there Code (given l) (v .out) (l .before .before .before .args .n) (v .at) (v .i) (v .inv .4) (c .before .before .before .before .before .before .before .before .loop-test .taken), size-is (c .before .before .before .before .before))
 
 loop-again : tie.Need-loop-again Inv-loop μ-loop
 loop-again c =
@@ -64,14 +64,14 @@ loop-again c =
     let l = c .before .before .before .before .before .before .before .before .before in
     let v = l .loop in
     let h = c .before .before .before .before .before .before .before .before .loop-test .taken in
-    let k = running-next Code (given l) (v .out) (l .before .before .before .before .args .n) (v .at) (v .i) (v .inv .4) h (n .size-again .result) _ (size-is n) (rw (rest-is (given l) (v .at)) at (c .before .before .put-restored .ensures)) in
+    let k = running-next Code (given l) (v .out) (l .before .before .before .args .n) (v .at) (v .i) (v .inv .4) h (n .size-again .result) _ (size-is n) (rw (rest-is (given l) (v .at)) at (c .before .before .put-restored .ensures)) in
     (omega arith, k .long ∙ sym (v .inv .4 .long) ∙ v .inv .1, there c, n .size-again .ensures, k)
 
 returns : tie.Need-returns Inv-loop μ-loop
 returns c =
     let l = c .before in
     let v = l .loop in
-    running-end Code (given l) (v .out) (l .before .before .before .before .args .n) (v .at) (v .i) (v .inv .4) (c .loop-test .left)
+    running-end Code (given l) (v .out) (l .before .before .before .args .n) (v .at) (v .i) (v .inv .4) (c .loop-test .left)
 
 pub restore-code-spec : {M : Type 1} → statement M
 restore-code-spec =
@@ -91,7 +91,7 @@ restore-code-spec =
     (λ c. search needs)
     (λ c. search needs)
     put-restored-requires
-    (λ c. record { fits = omega (arith, there c, c .before .before .before .before .before .before .before .before .before .before .before .before .before .good .1 .0 .0) })
+    (λ c. record { fits = omega (arith, there c, c .before .before .before .before .before .before .before .before .before .before .before .before .good .0 .0) })
     (λ c. search needs)
     (λ c. search needs)
     loop-again
