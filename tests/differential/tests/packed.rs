@@ -768,6 +768,7 @@ fn every_wrong_packing_is_found() {
         let long = matches!(
             fault,
             PackLengthInAByte
+                | PackOverflowsUnmeasured
                 | ThreeBeforeOne
                 | ThirtyTwoBeforeOne
                 | TwoBeforeOne
@@ -819,10 +820,12 @@ fn random_inputs(count: usize) -> Inputs {
     inputs
 }
 
-/// A lent output with its guards: as long as what is written, longer, a byte shorter, or empty.
-fn dirty(at: usize, length: usize) -> Vec<u8> {
-    let length = [length, length + 3, length.saturating_sub(1), 0][at % 4];
-    vec![0xA7; length + 2 * GUARD]
+/// A lent output with its guards: as long as what is written, longer, a byte shorter, empty, or of
+/// another length.
+fn dirty(at: usize, length: usize, other: Option<usize>) -> Vec<u8> {
+    let mut lengths = vec![length, length + 3, length.saturating_sub(1), 0];
+    lengths.extend(other);
+    vec![0xA7; lengths[at % lengths.len()] + 2 * GUARD]
 }
 
 impl Inputs {
@@ -830,11 +833,11 @@ impl Inputs {
     fn show(&self, wrong: Wrong) -> bool {
         let pack = |(at, part): (usize, &Part)| {
             let Part { image, expected } = part;
-            let around = dirty(at / 2, expected.packed_length(image));
+            let around = dirty(at / 2, expected.packed_length(image), Some(image.len()));
             expected.check_pack(&wrong, image, &around).is_err()
         };
         let unpack = |(at, unpacking): (usize, &Unpacking)| {
-            let around = dirty(at, unpacking.image_length());
+            let around = dirty(at, unpacking.image_length(), None);
             unpacking.check(&wrong, &around).is_err()
         };
         self.images.iter().enumerate().any(pack) || self.forms.iter().enumerate().any(unpack)
