@@ -8,5 +8,6 @@ pub mod Undo
 pub mod Promises
 pub mod Puts
 pub mod Turns
+pub mod Checks
 pub mod Runs
 pub mod Counts

@@ -3,13 +3,10 @@ use mathlib.Core.Path.{_≡_, refl, ap, sym, _∙_}
 use mathlib.Core.List.{List, [], _∷_}
 use Prim.Native.Nat.{ℕ, zero, suc, _-_, _≤_}
 use native.Mathlib.Omega.{arith}
-use borrow.Author.Tests.{ne-eqb}
-use lib.Dec.{eqb}
 use lib.ListN.{length}
 use Rattle.cells.specs.Bytes.{byte, half}
 use Rattle.cells.specs.Table.{headRow, eventRow}
 use Rattle.packed.specs.Form.{Role, Code, Event, promise, roleOf, dueBehind, rowSize, size}
-use Rattle.packed.specs.Reading.{empty}
 use Rattle.packed.specs.Steps.{NextCell}
 use Rattle.packed.specs.declared.form.Next.{Next}
 use Rattle.packed.proofs.Widths.{head-size}
@@ -24,10 +21,6 @@ some-event n (suc m) e h = let f : suc m - 1 ≡ m = omega arith in rw (e, f)
 
 pub nothing-due : (n m : ℕ) → n ≡ 0 → m ≡ 0 → promise n m ≡ []
 nothing-due n m e f = rw (e, f)
-
-pub is-empty : (s : List ℕ) → eqb (length s) 0 ≡ empty s
-is-empty [] = refl
-is-empty (b ∷ s) = ne-eqb (suc (length s)) 0 (λ (e : suc (length s) ≡ 0). omega arith)
 
 -- ---- the next cell
 

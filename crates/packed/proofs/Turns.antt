@@ -1,7 +1,6 @@
 -- One turn of the loops over all cells: the bytes kept, the packed cells checked.
 use mathlib.Core.Path.{_≡_, refl, ap, ap₂, sym, _∙_}
 use mathlib.Core.List.{List, [], _∷_, _++_, append-assoc, append-nil}
-use mathlib.Core.Bool.{true, false}
 use Prim.Native.Nat.{ℕ, suc, _+_, _-_, _*_, _/_, _≤_, _<_}
 use native.Mathlib.Numerals.{add-one}
 use native.Mathlib.Omega.{arith}
@@ -14,14 +13,14 @@ use Rattle.cells.specs.declared.refusal.Refusal.the-variants.{Length}
 use Rattle.cells.proofs.Cells.{length-cells, full-cells, part-cell}
 use Rattle.cells.proofs.Lists.{all-parts}
 use Rattle.packed.specs.Form.{Role, promise, roleOf, size, keep, packFrom, packed}
-use Rattle.packed.specs.Reading.{Result, bytes, refused, ends, andThen, finished, nextCell, readCell, nextPosition, unpackFrom, unpacked}
-use Rattle.packed.specs.Steps.{NextCell, counted, taken, putKept}
+use Rattle.packed.specs.Reading.{Result, bytes, refused, ends, andThen, nextCell, readCell}
+use Rattle.packed.specs.Steps.{NextCell, taken, takenAs, runOf, sizesOf, takenRun, putKept}
 use Rattle.packed.specs.declared.form.Next.{Next}
 use Rattle.packed.specs.declared.Packing.{Packing}
 use Rattle.packed.proofs.Packing.{the-type}
 use Rattle.packed.specs.declared.Packing.the-variants.{Bytes, Refused, Ends}
 use Rattle.packed.proofs.Widths.{size-fits, keep-length, cell-length}
-use Rattle.packed.proofs.Walk.{cell-read, then-nil, then-then, later, step-done, step-full, step-more}
+use Rattle.packed.proofs.Walk.{cell-read, taken-none, then-nil, then-then}
 use Rattle.packed.proofs.Lengths.{pack-least}
 use Rattle.packed.proofs.Puts.{put-start, put-length, put-rest, rest-is}
 
@@ -147,28 +146,13 @@ module _ (s out₀ out : List ℕ) (code events at i : ℕ) (k : Keeping s out�
       let l : at ≡ length (packed s) = sym (ap length e ∙ length-take-le at out (k .within)) in
       (l, sym (take-append-drop at out) ∙ ap₂ (λ (x : List ℕ) (j : ℕ). x ++ drop j out) (sym e) l ∙ ap (λ (t : List ℕ). packed s ++ t) (k .stays))
 
--- ---- the packed cells checked
-
-pub record Going (s : List ℕ) (code events position at cell : ℕ) : Type 0 where
-  pub done : List ℕ
-  pub says : unpacked s ≡ andThen (bytes done) (unpackFrom (4096 - cell) position cell (promise code events) (drop at s))
-  pub long : length done ≡ 16 * cell
-  pub within : at ≤ length s
-  pub place : position ≤ cell
-
-pub going-none : (s : List ℕ) → Going s 0 0 0 0 0
-unfolding unpacked
-going-none s = record { done = []; says = sym (then-nil (unpackFrom 4096 0 0 [] s)); long = refl; within = omega arith; place = omega arith }
-
-next-most : (p : ℕ) (due : List Role) → nextPosition p due ≤ p + 1
-next-most p [] = omega arith
-next-most p (r ∷ due) = omega arith
+-- ---- results
 
 -- a fault stays one
-counted-stops : (b c : List ℕ) (t u : Result) (k : ℕ) → ((n : ℕ) → taken t k ≡ Bytes n → ⊥) → counted (andThen (bytes b) (andThen t u)) ≡ taken t k
-counted-stops b c (bytes a) u k h = absurd (h k refl)
-counted-stops b c (refused x) u k h = refl
-counted-stops b c (ends p d) u k h = refl
+stops : (b : List ℕ) (t u : Result) (m k : ℕ) → ((n : ℕ) → taken t k ≡ Bytes n → ⊥) → taken (andThen (bytes b) (andThen t u)) m ≡ taken t k
+stops b (bytes a) u m k h = absurd (h k refl)
+stops b (refused x) u m k h = refl
+stops b (ends p d) u m k h = refl
 
 taken-bytes : (t : Result) (k n : ℕ) → taken t k ≡ Bytes n → (n ≡ k) × ((c : List ℕ) → ((b : List ℕ) → t ≡ bytes b → b ≡ c) → t ≡ bytes c)
 taken-bytes (bytes a) k n e = (cc, λ c f. ap bytes (f a refl))
@@ -181,63 +165,86 @@ not-bytes (Bytes m) o n e = miss (1 ∷ 2 ∷ []) 0 tt o
 not-bytes (Refused x) o n e = let z : _≡_ {A = ℕ} 0 1 = cc in omega arith
 not-bytes (Ends p d) o n e = let z : _≡_ {A = ℕ} 0 1 = cc in omega arith
 
-module _ (s : List ℕ) (code events position at cell : ℕ) (g : Going s code events position at cell) where
-  abbrev due : List Role
-  due = promise code events
+-- ---- the packed cells checked: a run of them
 
-  abbrev left : List ℕ
-  left = drop at s
+module _ (r : Role) where
+  -- a fault stays one, and what is no fault is the next cell
+  pub record Went (p d : ℕ) (s : List ℕ) (k : ℕ) : Type 0 where
+    pub is : k ≡ size r s
+    pub fits : k ≤ length s
+    pub cell-is : readCell r p d s ≡ bytes (nextCell r s)
+    pub full : length (nextCell r s) ≡ 16
 
-  pub going-done : finished due left ≡ true → Bytes (16 * cell) ≡ counted (unpacked s)
-  going-done f =
-      sym (ap counted (g .says ∙ ap (andThen (bytes (g .done))) (step-done position cell due left (4096 - cell) f)) ∙ ap (λ (b : List ℕ). Bytes (length b)) (append-nil (g .done)) ∙ ap Bytes (g .long))
+  pub went : (p d : ℕ) (s : List ℕ) (k : ℕ) → Bytes k ≡ taken (readCell r p d s) (size r s) → Went p d s k
+  went p d s k e =
+      let (n, i) = taken-bytes (readCell r p d s) (size r s) k (sym e) in
+      let c = i (nextCell r s) (λ b q. cell-read r p d s b q .is) in
+      let w = cell-read r p d s (nextCell r s) c in
+      record { is = n; fits = omega (arith, w .fits); cell-is = c; full = cell-length r s (w .fits) }
 
-  pub going-full : finished due left ≡ false → cell ≡ 4096 → Refused Length ≡ counted (unpacked s)
-  going-full f e =
-      let z : 4096 - cell ≡ 0 = omega arith in
-      sym (ap counted (g .says ∙ ap (λ (n : ℕ). andThen (bytes (g .done)) (unpackFrom n position cell due left)) z ∙ ap (andThen (bytes (g .done))) (step-full position cell due left f)))
+pub record Checking (r : Role) (s : List ℕ) (n p d at i : ℕ) : Type 0 where
+  pub done : List ℕ
+  pub says : runOf r n (4096 - d) p d s ≡ andThen (bytes done) (runOf r (n - i) (4096 - (d + i)) p (d + i) (drop at s))
+  pub takes : sizesOf r n s ≡ at + sizesOf r (n - i) (drop at s)
+  pub within : at ≤ length s
+  pub place : d + i ≤ 4096
 
-  module _ (l : cell < 4096) (f : finished due left ≡ false) where
-    more : 4096 - cell ≡ suc (4096 - (cell + 1))
-    more = omega arith
+pub checking-none : (r : Role) (s : List ℕ) (n p d : ℕ) → d ≤ 4096 → Checking r s n p d 0 0
+checking-none r s n p d l =
+    let e : n ≡ n - 0 = omega arith in
+    let f : d ≡ d + 0 = omega arith in
+    record {
+      done = [];
+      says = sym (then-nil (runOf r n (4096 - d) p d s)) ∙ ap₂ (λ (j c : ℕ). andThen (bytes []) (runOf r j (4096 - c) p c s)) e f;
+      takes = omega (arith, ap (λ (j : ℕ). sizesOf r j s) e);
+      within = omega arith;
+      place = omega arith;
+    }
 
-    on : unpacked s ≡ andThen (bytes (g .done)) (andThen (readCell (roleOf due) position cell left) (later position cell due left (4096 - (cell + 1))))
-    on =
-        g .says ∙ ap (λ (n : ℕ). andThen (bytes (g .done)) (unpackFrom n position cell due left)) more
-        ∙ ap (andThen (bytes (g .done))) (step-more position cell due left (4096 - (cell + 1)) f)
+module _ (r : Role) (s : List ℕ) (n p d at i : ℕ) (g : Checking r s n p d at i) where
+  module _ (h : i < n) where
+    next-of : n - i ≡ suc (n - (i + 1))
+    next-of = omega arith
 
-    -- the fault of the next cell is that of the whole
-    pub going-fault : (t : Packing) → t ≡ taken (readCell (roleOf due) position cell left) (size (roleOf due) left) → ((n : ℕ) → t ≡ Bytes n → ⊥) → t ≡ counted (unpacked s)
-    going-fault t e h =
-        e ∙ sym (ap counted on ∙ counted-stops (g .done) [] (readCell (roleOf due) position cell left) (later position cell due left (4096 - (cell + 1))) (size (roleOf due) left) (λ n q. h n (e ∙ q)))
+    pub checking-full : d + i ≡ 4096 → Refused Length ≡ takenRun r n p d s
+    checking-full e =
+        let z : 4096 - (d + i) ≡ 0 = omega arith in
+        sym (ap (λ (t : Result). taken t (sizesOf r n s)) (g .says ∙ ap₂ (λ (j q : ℕ). andThen (bytes (g .done)) (runOf r j q p (d + i) (drop at s))) next-of z))
 
-    -- the next cell is good
-    pub record Went (k : ℕ) : Type 0 where
-      pub is : k ≡ size (roleOf due) left
-      pub fits : k ≤ length left
-      pub cell-is : readCell (roleOf due) position cell left ≡ bytes (nextCell (roleOf due) left)
-      pub full : length (nextCell (roleOf due) left) ≡ 16
+    module _ (some : d + i < 4096) where
+      room-of : 4096 - (d + i) ≡ suc (4096 - (d + (i + 1)))
+      room-of = omega arith
 
-    pub going-went : (k : ℕ) → Bytes k ≡ taken (readCell (roleOf due) position cell left) (size (roleOf due) left) → Went k
-    going-went k e =
-        let (n, i) = taken-bytes (readCell (roleOf due) position cell left) (size (roleOf due) left) k (sym e) in
-        let c = i (nextCell (roleOf due) left) (λ b q. cell-read (roleOf due) position cell left b q .is) in
-        let w = cell-read (roleOf due) position cell left (nextCell (roleOf due) left) c in
-        record { is = n; fits = omega (arith, w .fits); cell-is = c; full = cell-length (roleOf due) left (w .fits) }
+      checking-on : runOf r n (4096 - d) p d s
+          ≡ andThen (bytes (g .done)) (andThen (readCell r p (d + i) (drop at s)) (runOf r (n - (i + 1)) (4096 - (d + (i + 1))) p (d + i + 1) (drop (size r (drop at s)) (drop at s))))
+      checking-on = g .says ∙ ap₂ (λ (j q : ℕ). andThen (bytes (g .done)) (runOf r j q p (d + i) (drop at s))) next-of room-of
 
-    pub going-next : (k position₂ : ℕ) (r : Next) → Went k → NextCell code events left r → position₂ ≡ nextPosition position (promise (r .code) (r .events))
-        → Going s (r .code) (r .events) position₂ (at + k) (cell + 1)
-    going-next k position₂ r w n ep =
-        let c = nextCell (roleOf due) left in
-        let rest = 4096 - (cell + 1) in
-        record {
-          done = g .done ++ c;
-          says = on ∙ ap (λ (t : Result). andThen (bytes (g .done)) (andThen t (later position cell due left rest))) (w .cell-is)
-              ∙ then-then (g .done) c (later position cell due left rest)
-              ∙ ap (λ (q : List Role). andThen (bytes (g .done ++ c)) (unpackFrom rest (nextPosition position q) (cell + 1) q (drop (size (roleOf due) left) left))) (sym (n .due))
-              ∙ ap₂ (λ (q : ℕ) (t : List ℕ). andThen (bytes (g .done ++ c)) (unpackFrom rest q (cell + 1) (promise (r .code) (r .events)) t)) (sym ep)
-              (ap (λ (j : ℕ). drop j left) (sym (w .is)) ∙ drop-drop k at s);
-          long = omega (arith, length-append (g .done) c, g .long, w .full);
-          within = omega (arith, length-drop at s, g .within, w .fits);
-          place = omega (arith, g .place, ep, next-most position (promise (r .code) (r .events)));
-        }
+      pub checking-fault : (t : Packing) → t ≡ takenAs r p (d + i) (drop at s) → ((k : ℕ) → t ≡ Bytes k → ⊥) → t ≡ takenRun r n p d s
+      checking-fault t e f =
+          e ∙ sym (ap (λ (x : Result). taken x (sizesOf r n s)) checking-on ∙ stops (g .done) (readCell r p (d + i) (drop at s)) _ _ (size r (drop at s)) (λ k q. f k (e ∙ q)))
+
+      pub checking-none-left : at ≡ length s → Ends p (d + i) ≡ takenRun r n p d s
+      checking-none-left e =
+          checking-fault (Ends p (d + i)) (taken-none r p (d + i) (drop at s) (omega (arith, length-drop at s)))
+          (λ k q. let z : _≡_ {A = ℕ} 0 1 = cc in omega arith)
+
+      pub checking-next : (k : ℕ) → Bytes k ≡ takenAs r p (d + i) (drop at s) → Checking r s n p d (at + k) (i + 1)
+      checking-next k e =
+          let w = went r p (d + i) (drop at s) k e in
+          let rest = runOf r (n - (i + 1)) (4096 - (d + (i + 1))) p (d + i + 1) (drop (size r (drop at s)) (drop at s)) in
+          let b : drop (size r (drop at s)) (drop at s) ≡ drop (at + k) s = ap (λ (j : ℕ). drop j (drop at s)) (sym (w .is)) ∙ drop-drop k at s in
+          let c : d + i + 1 ≡ d + (i + 1) = omega arith in
+          record {
+            done = g .done ++ nextCell r (drop at s);
+            says = checking-on ∙ ap (λ (t : Result). andThen (bytes (g .done)) (andThen t rest)) (w .cell-is) ∙ then-then (g .done) (nextCell r (drop at s)) rest
+                ∙ ap₂ (λ (j : ℕ) (x : List ℕ). andThen (bytes (g .done ++ nextCell r (drop at s))) (runOf r (n - (i + 1)) (4096 - (d + (i + 1))) p j x)) c b;
+            takes = omega (arith, g .takes, ap (λ (j : ℕ). sizesOf r j (drop at s)) next-of, w .is, ap (sizesOf r (n - (i + 1))) b);
+            within = omega (arith, length-drop at s, g .within, w .fits);
+            place = omega arith;
+          }
+
+  pub checking-end : n ≤ i → Bytes at ≡ takenRun r n p d s
+  checking-end h =
+      let z : n - i ≡ 0 = omega arith in
+      let e : sizesOf r n s ≡ at = omega (arith, g .takes, ap (λ (j : ℕ). sizesOf r j (drop at s)) z) in
+      sym (ap₂ taken (g .says ∙ ap (λ (j : ℕ). andThen (bytes (g .done)) (runOf r j (4096 - (d + i)) p (d + i) (drop at s))) z) e)

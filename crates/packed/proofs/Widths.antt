@@ -10,7 +10,7 @@ use borrow.Author.Tests.{lt-ltb, le-leb, lt-leb, ltb-true, ltb-false, eqb-true}
 use lib.Dec.{eqb, ltb, leb, leb→le}
 use lib.ListN.{length, take, drop, replicate, length-append, length-drop, length-replicate, take-append-drop, drop-of-length-le, List·getD-eq-default, List·getD-append}
 use lib.Pow.{shr-shr}
-use lib.Seq.{length-take-le, getD-take, getD-drop, take-at, drop-at, take-all}
+use lib.Seq.{length-take-le, getD-take, getD-drop, take-at, drop-at}
 use Rattle.cells.specs.Answers.{unless}
 use Rattle.cells.specs.Bytes.{byte, half, word, zeros}
 use Rattle.cells.specs.Cells.{Cell}
@@ -263,10 +263,6 @@ module _ (r : Role) (s : List ℕ) (fits : size r s ≤ length s) where
 
   pub start-whole : size r start ≡ length start
   start-whole = size-first r start s start-first ∙ sym start-length
-
-  -- the bytes that the cell keeps are all that is read
-  pub start-cell : nextCell r start ≡ nextCell r s
-  start-cell = ap padded (take-all (size r start) start (omega (arith, start-whole)))
 
   pub start-known : known r start ≡ known r s
   start-known = known-first r start s start-first

@@ -14,7 +14,9 @@ use Rattle.cells.specs.Table.{rows}
 use Rattle.image.specs.Image.{imageAnswer}
 use Rattle.packed.specs.Form.{Role, Head as HeadCell, Code, Event, rowSize, keep, packed}
 use Rattle.packed.specs.Reading.{Result, readCell, unpackFrom, unpacked}
-use Rattle.packed.specs.Steps.{sizeDigits, mostKept, putKept}
+use Rattle.cells.specs.declared.refusal.Refusal.the-variants.{Length}
+use Rattle.packed.specs.Steps.{sizeDigits, mostKept, putKept, takenRun}
+use Rattle.packed.specs.declared.Packing.the-variants.{Bytes, Refused, Ends}
 use Rattle.packed.specs.Operations.{packResult, unpackResult, answerOf, outputOf, Reply, success, refusal, replyOf}
 
 -- ---- what a cell keeps
@@ -283,11 +285,19 @@ unfolding unpackFrom readCell rowSize answerOf instructionCheck eventCheck headC
 last-worked = (refl, refl, refl, refl, refl, refl, refl, refl, refl, refl, refl, refl, refl, refl, refl, refl, refl, refl, refl, refl)
 
 -- ---- inner: the sizes of rows as digits (Label 3, PulseEmit 3, Ret 4; an event 15, a head 7, then what is no command), the most that cells can keep,
--- and a Label kept where 15 cells are left, and 16
+-- a Label kept where 15 cells are left, and 16; and runs of cells: two Labels, where room is for one more, and an event that is missing
+
+abbrev pub twoLabels : List ℕ
+twoLabels = 0x0A ∷ 1 ∷ 0 ∷ 0x0A ∷ 2 ∷ 0 ∷ []
 
 pub steps-hold : (sizeDigits 3 0x0A ≡ 0x433) × (sizeDigits 3 0x52 ≡ 0x17F) × (sizeDigits 0 0x52 ≡ 0)
     × (map mostKept (0 ∷ 1 ∷ 2 ∷ 3 ∷ 4096 ∷ []) ≡ 0 ∷ 7 ∷ 22 ∷ 37 ∷ 61432 ∷ [])
     × (putKept (Label 0xABCD) 3 15 (replicate 17 9) ≡ 0x0A ∷ 0xCD ∷ 0xAB ∷ replicate 14 9)
     × (putKept (Label 0xABCD) 3 16 (replicate 17 9) ≡ 0x0A ∷ 0xCD ∷ 0xAB ∷ (replicate 13 0 ++ 9 ∷ []))
-unfolding rows rowSize over
-steps-hold = (refl, refl, refl, refl, refl, refl)
+    × (takenRun Code 2 0 4094 twoLabels ≡ Bytes 6)
+    × (takenRun Code 2 0 4095 twoLabels ≡ Refused Length)
+    × (takenRun Code 2 7 4094 (take 3 twoLabels) ≡ Ends 7 4095)
+    × (takenRun Event 1 7 3 [] ≡ Ends 7 3)
+    × (takenRun Event 0 7 4096 [] ≡ Bytes 0)
+unfolding rows rowSize over readCell instructionCheck eventCheck
+steps-hold = (refl, refl, refl, refl, refl, refl, refl, refl, refl, refl, refl)

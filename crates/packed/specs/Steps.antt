@@ -1,5 +1,5 @@
 -- Inner: what the functions inside the two operations say.
-use Prim.Native.Nat.{ℕ, zero, suc, _+_, _*_}
+use Prim.Native.Nat.{ℕ, zero, suc, _+_, _-_, _*_}
 use mathlib.Core.Path.{_≡_}
 use mathlib.Core.List.{List, [], _++_}
 use mathlib.Core.Bool.{cond}
@@ -8,7 +8,8 @@ use lib.ListN.{length, take, drop, replicate}
 use Rattle.cells.specs.Cells.{Cell, over}
 use Rattle.cells.specs.Check.{codeCount, eventCount}
 use Rattle.packed.specs.Form.{Role, Head, Code, promise, roleOf, dueBehind, rowSize, size}
-use Rattle.packed.specs.Reading.{Result, bytes, refused, ends, padded, nextCell, readCell}
+use Rattle.cells.specs.declared.refusal.Refusal.the-variants.{Length}
+use Rattle.packed.specs.Reading.{Result, bytes, refused, ends, andThen, padded, nextCell, readCell}
 use Rattle.packed.specs.declared.form.Next.{Next}
 use Rattle.packed.specs.declared.keep.Counted.{Counted}
 use Rattle.packed.specs.declared.Packing.{Packing}
@@ -53,6 +54,12 @@ taken (ends p d) k = Ends p d
 abbrev pub takenAs : Role → ℕ → ℕ → List ℕ → Packing
 takenAs r p d s = taken (readCell r p d s) (size r s)
 
+-- n cells of a role, one after another, from the cell d on, where an image has room for so many more
+abbrev pub runOf : Role → ℕ → ℕ → ℕ → ℕ → List ℕ → Result
+runOf r zero room p d s = bytes []
+runOf r (suc n) zero p d s = refused Length
+runOf r (suc n) (suc room) p d s = andThen (readCell r p d s) (runOf r n room p (d + 1) (drop (size r s) s))
+
 -- all cells
 abbrev pub counted : Result → Packing
 counted (bytes b) = Bytes (length b)
@@ -73,6 +80,10 @@ cellsOf r (suc n) s = nextCell r s ++ cellsOf r n (drop (size r s) s)
 abbrev pub sizesOf : Role → ℕ → List ℕ → ℕ
 sizesOf r zero s = 0
 sizesOf r (suc n) s = size r s + sizesOf r n (drop (size r s) s)
+
+-- such a run, as the code checks it
+abbrev pub takenRun : Role → ℕ → ℕ → ℕ → List ℕ → Packing
+takenRun r n p d s = taken (runOf r n (4096 - d) p d s) (sizesOf r n s)
 
 -- a cell over the start of an output; and where there are 16 bytes to copy, and room for the next cell, zeros over the start of that
 abbrev pub putRestored : List ℕ → ℕ → List ℕ → List ℕ

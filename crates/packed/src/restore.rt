@@ -17,84 +17,96 @@ ghost use mathlib.Core.Path.{_≡_};
 ghost use Prim.Native.Nat.{_*_, _≤_, _<_};
 ghost use lib.ListN.{length, take};
 ghost use Rattle.cells.specs.Cells.{over};
-ghost use Rattle.packed.specs.Form.{Head, Code, Event, promise, roleOf};
-ghost use Rattle.packed.specs.Reading.{bytes, padded, finished as «finishedOf», nextPosition, unpacked};
-ghost use Rattle.packed.specs.Steps.{counted, takenAs, Room, cellsOf, sizesOf, putRestored};
+ghost use Rattle.packed.specs.Form.{Head, Code, Event};
+ghost use Rattle.packed.specs.Reading.{bytes, padded, unpacked};
+ghost use Rattle.packed.specs.Steps.{counted, takenAs, takenRun, Room, cellsOf, sizesOf, putRestored};
 
 // Cells of the longest image.
 const MAX_CELLS: usize = MAX_IMAGE / CELL;
 
-// How many bytes an image has of which this is the packed form; or why it is of none.
+// How many bytes an image has of which this is the packed form; or why it is of none. Of each function the head, the instructions and the events.
 pub fn check_cells(packed: &[u8]) -> Packing
     ensures { λ r. ⌜ r ≡ counted (unpacked (now (packed .entry))) ⌝ }
 {
-    let mut code = 0;
-    let mut events = 0;
     let mut position = 0;
     let mut at = 0;
     let mut cell = 0;
-    while cell < MAX_CELLS {
-        if finished(code, events, &packed[at..]) {
-            return Packing::Bytes(CELL * cell);
+    while at < packed.len() {
+        if cell == MAX_CELLS {
+            return Packing::Refused(Refusal::Length);
         }
-        let next = check_next(code, events, &packed[at..], position, cell);
+        let head = check_head(&packed[at..], position, cell);
+        let Packing::Bytes(h) = head else {
+            return head;
+        };
+        let n = read::half(&packed[at..], 3);
+        let m = read::half(&packed[at..], 5);
+        at += h;
+        cell += 1;
+        let code = check_code(&packed[at..], n, position, cell);
+        let Packing::Bytes(k) = code else {
+            return code;
+        };
+        at += k;
+        cell += n;
+        let events = check_events(&packed[at..], m, position, cell);
+        let Packing::Bytes(e) = events else {
+            return events;
+        };
+        at += e;
+        cell += m;
+        position += 1;
+    }
+    Packing::Bytes(CELL * cell)
+}
+
+// How many bytes the n instruction cells at the start of s take, of which the first is the image's cell `cell`; or the first fault. (One function
+// for both parts is compiled into a call for each, which takes longer than a head's check.)
+fn check_code(s: &[u8], n: usize, position: usize, cell: usize) -> Packing
+    requires { ⌜ cell ≤ 4096 ⌝ }
+    ensures { λ r. ⌜ r ≡ takenRun Code n position cell (now (s .entry)) ⌝ }
+{
+    let mut at = 0;
+    let mut i = 0;
+    while i < n {
+        if cell + i == MAX_CELLS {
+            return Packing::Refused(Refusal::Length);
+        }
+        if at == s.len() {
+            return Packing::Ends(position, cell + i);
+        }
+        let next = check_instruction(&s[at..], position, cell + i);
         let Packing::Bytes(k) = next else {
             return next;
         };
-        let behind = form::next_cell(code, events, &packed[at..]);
-        code = behind.code;
-        events = behind.events;
-        position = position_behind(position, code, events);
         at += k;
-        cell += 1;
+        i += 1;
     }
-    if finished(code, events, &packed[at..]) {
-        return Packing::Bytes(CELL * cell);
-    }
-    Packing::Refused(Refusal::Length)
+    Packing::Bytes(at)
 }
 
-// Nothing is promised, and no byte is left.
-fn finished(code: usize, events: usize, s: &[u8]) -> bool
-    ensures { λ r. ⌜ r ≡ finishedOf (promise code events) (now (s .entry)) ⌝ }
+// The n event cells at the start of s, as the instruction cells.
+fn check_events(s: &[u8], n: usize, position: usize, cell: usize) -> Packing
+    requires { ⌜ cell ≤ 4096 ⌝ }
+    ensures { λ r. ⌜ r ≡ takenRun Event n position cell (now (s .entry)) ⌝ }
 {
-    if code != 0 {
-        return false;
+    let mut at = 0;
+    let mut i = 0;
+    while i < n {
+        if cell + i == MAX_CELLS {
+            return Packing::Refused(Refusal::Length);
+        }
+        if at == s.len() {
+            return Packing::Ends(position, cell + i);
+        }
+        let next = check_event(&s[at..], position, cell + i);
+        let Packing::Bytes(k) = next else {
+            return next;
+        };
+        at += k;
+        i += 1;
     }
-    if events != 0 {
-        return false;
-    }
-    s.len() == 0
-}
-
-// Where nothing more is promised, the next cell is in the next function.
-fn position_behind(position: usize, code: usize, events: usize) -> usize
-    requires { ⌜ position < 65536 ⌝ }
-    ensures { λ r. ⌜ r ≡ nextPosition position (promise code events) ⌝ }
-{
-    if code != 0 {
-        return position;
-    }
-    if events != 0 {
-        return position;
-    }
-    position + 1
-}
-
-// How many bytes the cell at the start of s takes, where so many instruction cells and event cells are promised; or its fault.
-fn check_next(code: usize, events: usize, s: &[u8], position: usize, cell: usize) -> Packing
-    ensures { λ r. ⌜ r ≡ takenAs (roleOf (promise code events)) position cell (now (s .entry)) ⌝ }
-{
-    if s.len() == 0 {
-        return Packing::Ends(position, cell);
-    }
-    if code != 0 {
-        return check_instruction(s, position, cell);
-    }
-    if events != 0 {
-        return check_event(s, position, cell);
-    }
-    check_head(s, position, cell)
+    Packing::Bytes(at)
 }
 
 // An instruction cell: 3, 32, then 4.
