@@ -11,13 +11,13 @@ use Rattle.cells.specs.Check.{instructionCheck, eventCheck, headCheck}
 use Rattle.cells.specs.Functions.{functions}
 use Rattle.cells.specs.Refusals.{numbered}
 use Rattle.cells.specs.Table.{rows}
+use Rattle.cells.specs.declared.refusal.Refusal.the-variants.{Length}
 use Rattle.image.specs.Image.{imageAnswer}
 use Rattle.packed.specs.Form.{Role, Head as HeadCell, Code, Event, rowSize, keep, packed}
 use Rattle.packed.specs.Reading.{Result, readCell, unpackFrom, unpacked}
-use Rattle.cells.specs.declared.refusal.Refusal.the-variants.{Length}
 use Rattle.packed.specs.Steps.{sizeDigits, mostKept, putKept, takenRun}
-use Rattle.packed.specs.declared.Packing.the-variants.{Bytes, Refused, Ends}
 use Rattle.packed.specs.Operations.{packResult, unpackResult, answerOf, outputOf, Reply, success, refusal, replyOf}
+use Rattle.packed.specs.declared.Packing.the-variants.{Bytes, Refused, Ends}
 
 -- ---- what a cell keeps
 

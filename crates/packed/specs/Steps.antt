@@ -7,8 +7,8 @@ use lib.Dec.{ltb}
 use lib.ListN.{length, take, drop, replicate}
 use Rattle.cells.specs.Cells.{Cell, over}
 use Rattle.cells.specs.Check.{codeCount, eventCount}
-use Rattle.packed.specs.Form.{Role, Head, Code, promise, roleOf, dueBehind, rowSize, size}
 use Rattle.cells.specs.declared.refusal.Refusal.the-variants.{Length}
+use Rattle.packed.specs.Form.{Role, Head, Code, promise, roleOf, dueBehind, rowSize, size}
 use Rattle.packed.specs.Reading.{Result, bytes, refused, ends, andThen, padded, nextCell, readCell}
 use Rattle.packed.specs.declared.form.Next.{Next}
 use Rattle.packed.specs.declared.keep.Counted.{Counted}

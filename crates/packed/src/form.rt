@@ -14,6 +14,7 @@ pub struct Next {
     pub events: usize,
 }
 
+// A head's row in the table of commands.
 pub const HEAD_ROW: usize = 0x53;
 
 // What a head and an event keep.

@@ -61,7 +61,7 @@ pub fn check_cells(packed: &[u8]) -> Packing
 }
 
 // How many bytes the n instruction cells at the start of s take, of which the first is the image's cell `cell`; or the first fault. (One function
-// for both parts is compiled into a call for each, which takes longer than a head's check.)
+// for both parts is compiled into a call for each, which small functions feel.)
 fn check_code(s: &[u8], n: usize, position: usize, cell: usize) -> Packing
     requires { ⌜ cell ≤ 4096 ⌝ }
     ensures { λ r. ⌜ r ≡ takenRun Code n position cell (now (s .entry)) ⌝ }
