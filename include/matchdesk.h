@@ -1,6 +1,6 @@
 /*
  * The MatchDesk rewrite: image checks, cleanup, CrystalFold and the two whole rewrites of cell images (docs/FORMAT.md says what an image is), the
- * pages and the packed form of an image, and the other factor of a product.
+ * rewrite until it rests, the pages and the packed form of an image, and the other factor of a product.
  *
  * Library: target/staticlib/libcapi.a for Linux on x86-64, made by `rt staticlib capi`. Every function is proved to meet its contract
  * (crates/capi/specs/Contracts.antt), for images of all bytes and lengths, outputs of all lengths and all numbers.
@@ -10,9 +10,9 @@
  * - Every pointer is valid for the length given with it, and not NULL even for a length of 0.
  * - What is written (the output, and the numbers) overlaps with nothing else that the call is lent: the output isn't the image, and two numbers
  *   are two.
- * - The floating-point environment is the default one for matchdesk_crystalfold, matchdesk_rewrite and matchdesk_rewrite_fuller: see 'The
- *   floating-point environment' below.
- * - There is room on the stack: MATCHDESK_STACK.
+ * - The floating-point environment is the default one for matchdesk_crystalfold, matchdesk_rewrite, matchdesk_rewrite_fuller and
+ *   matchdesk_rewrite_until_rest: see 'The floating-point environment' below.
+ * - There is room on the stack: MATCHDESK_STACK, and MATCHDESK_STACK_UNTIL_REST for matchdesk_rewrite_until_rest.
  *
  * No function allocates, keeps a pointer or a state, or reads or writes anything but what it is lent. Threads may call at the same time, if
  * what one call writes is lent to no other. The library needs one symbol from elsewhere, memset. This header is for C99 or later and for C++.
@@ -28,7 +28,7 @@
 #endif
 
 /* The version of this interface: it rises when a function is added or an answer changes. */
-#define MATCHDESK_VERSION 7
+#define MATCHDESK_VERSION 8
 
 /* The bytes of a cell. */
 #define MATCHDESK_CELL 16
@@ -44,13 +44,16 @@
 #define MATCHDESK_MAX_PAGES 242382
 
 /*
- * A call takes no more stack than this, in bytes, whatever the image. Measured, not proved (tests/cinterface/stack.c paints a stack and looks
- * how far each call went): 21 KiB for matchdesk_cleanup and the two rewrites, 19 KiB for matchdesk_crystalfold, 17 KiB for
+ * A call of any function but matchdesk_rewrite_until_rest takes no more stack than this, in bytes, whatever the image. Measured, not proved
+ * (tests/cinterface/stack.c paints a stack and looks how far each call went): 21 KiB for matchdesk_cleanup and the two rewrites, 19 KiB for matchdesk_crystalfold, 17 KiB for
  * matchdesk_pages, 14 KiB for matchdesk_site_check, under 1 KiB for matchdesk_image_check, matchdesk_pack, matchdesk_unpack and the factors. The
  * rest is reserve. The frames have fixed sizes, and no function calls itself. What a thread needs for itself comes on top: one made with a stack
  * of 28 KiB could call matchdesk_rewrite, one of 24 KiB could not.
  */
 #define MATCHDESK_STACK 32768
+
+/* A call of matchdesk_rewrite_until_rest takes no more than this: 85 KiB, measured in the same way, of which 64 KiB are memory for one image. */
+#define MATCHDESK_STACK_UNTIL_REST 98304
 
 #ifdef __cplusplus
 extern "C" {
@@ -121,6 +124,15 @@ size_t matchdesk_rewrite(const unsigned char *image, size_t image_length, unsign
  * (7FF8000000000000). matchdesk_crystalfold and matchdesk_rewrite leave these as they are. It refuses as the default one.
  */
 size_t matchdesk_rewrite_fuller(const unsigned char *image, size_t image_length, unsigned char *out, size_t out_length, size_t *first, size_t *second);
+
+/*
+ * The rewrite until it rests: rounds of the default rewrite, each of what the one before handed back, until one reports 0. *first is the length
+ * that the last round wrote and *second the sum of all counts. Behind that length the output stays as it was, however long an earlier round was.
+ * Never more than three rounds: LoadI32 r1 5, AddI32 r1 r1 r1 is LoadI32 r1 5, LoadI32 r1 10 after one and LoadI32 r1 10 after two, and the third
+ * reports 0. A further matchdesk_rewrite of what is written reports 0 and writes the same bytes. It refuses as the default one: 5 if the output is
+ * shorter than the image as sent, though the result would fit.
+ */
+size_t matchdesk_rewrite_until_rest(const unsigned char *image, size_t image_length, unsigned char *out, size_t out_length, size_t *first, size_t *second);
 
 /*
  * The pages of an image, for people to read: lines of 57 bytes and a line feed. Each function begins a page:
@@ -212,8 +224,8 @@ size_t matchdesk_factor_i32(int32_t wanted, int32_t factor, int32_t *other);
  * The floating-point environment.
  *
  * CrystalFold folds f64 commands with the machine's own operations, and the proofs speak of IEEE 754's default: round to nearest, ties to
- * even; subnormal numbers kept; no traps. In a thread that has set something else, matchdesk_crystalfold, matchdesk_rewrite and
- * matchdesk_rewrite_fuller write other bytes, or don't come back:
+ * even; subnormal numbers kept; no traps. In a thread that has set something else, matchdesk_crystalfold, matchdesk_rewrite,
+ * matchdesk_rewrite_fuller and matchdesk_rewrite_until_rest write other bytes, or don't come back:
  *
  *   rounding upward            1.0 / 3.0 folds to 3FD5555555555556, not 3FD5555555555555
  *   FTZ and DAZ set (start-    5e-324 + 0.0 folds to 0.0, not 5e-324; CmpEq of 5e-324 and 0.0 to true, not false

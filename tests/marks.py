@@ -14,8 +14,8 @@ import sys
 
 ROOT = pathlib.Path(__file__).resolve().parent.parent / "crates"
 # where the exported operations stand, and the claims
-OPERATIONS = ["capi/src/lib.rt", "passes/src/lib.rt", "image/src/lib.rt", "listing/src/lib.rt", "pages/src/lib.rt", "packed/src/lib.rt", "factor/src/lib.rt"]
-CLAIM = [("rewrite", "Claim"), ("matchdesk", "Program"), ("passes", "Joined"), ("pages", "Apart"), ("pages", "LinePlaces"), ("packed", "Claim"), ("factor", "Claim")]
+OPERATIONS = ["capi/src/lib.rt", "passes/src/lib.rt", "rest/src/lib.rt", "image/src/lib.rt", "listing/src/lib.rt", "pages/src/lib.rt", "packed/src/lib.rt", "factor/src/lib.rt"]
+CLAIM = [("rewrite", "Claim"), ("matchdesk", "Program"), ("passes", "Joined"), ("rest", "Contracts"), ("pages", "Apart"), ("pages", "LinePlaces"), ("packed", "Claim"), ("factor", "Claim")]
 MARKS = ("Promise", "Inner", "Worked")
 USE = re.compile(r"use\s+Rattle·(\w+?)(?:·specs)?\.specs\.(\w+)\.\{([^}]*)\}")
 
@@ -29,9 +29,10 @@ def uses(text):
 
 
 def contracts(text):
-    """The contracts of the public functions of a source file."""
+    """The contracts of the operations of a source file: of its public functions that require nothing. One that does is a part of other crates'."""
     for found in re.finditer(r"^pub (?:extern \"C\" )?fn .*?^\{", text, re.M | re.S):
-        yield found.group(0)
+        if "requires {" not in found.group(0):
+            yield found.group(0)
 
 
 def closure(start, imports):

@@ -255,6 +255,42 @@ static const struct fuller {
     {"F0070003 290100000000000000F03F 2B0200 25030001000200", UNCHANGED},
 };
 
+/* The rewrite until it rests, document 02's W11: the image, what one default rewrite writes, and what is written when it rests, with the sum of the counts. */
+static const struct rested {
+    const char *image;
+    struct written once, rest;
+} rested[] = {
+    /* the document's LoadI32 r1 5, AddI32 r1 r1 r1: three rounds, 1, 1 and 0 */
+    {"F0070002 2B010005 13010001000100", {"F0070002 2B010005 2B01000A", 1}, {"F0070001 2B01000A", 2}},
+    /* a fold's load is overwritten by the next; three folds into one register */
+    {"F0070003 2B010005 13020001000100 2B020007", {"F0070003 2B010005 2B02000A 2B020007", 1}, {"F0070002 2B010005 2B020007", 2}},
+    {"F0070004 2B010001 13010001000100 13010001000100 13010001000100", {"F0070004 2B010001 2B010002 2B010004 2B010008", 3}, {"F0070001 2B010008", 6}},
+    /* Label 1, Jmp 1, Label 1: the labels are alike when the jump is gone; then both in one function */
+    {"F0070003 0A0100 080100 0A0100", {"F0070002 0A0100 0A0100", 1}, {"F0070001 0A0100", 2}},
+    {"F0070006 0A0100 080100 0A0100 2B010005 13010001000100 0C010100",
+     {"F0070005 0A0100 0A0100 2B010005 2B01000A 0C010100", 2}, {"F0070003 0A0100 2B01000A 0C010100", 4}},
+    /* an event goes in the first round, with its site, and another stays */
+    {"F0070005000200 4D000000000108 2B010005 13010001000100 0C 4D000000000109 000109 000108",
+     {"F0070004000100 4D000000000108 2B010005 2B01000A 0C 000108", 2}, {"F0070003000100 4D000000000108 2B01000A 0C 000108", 3}},
+    /* a LoadU32 is not overwritten: two rounds, 1 and 0 */
+    {"F0070002 2E010005 1E010001000100", {"F0070002 2E010005 2E01000A", 1}, {"F0070002 2E010005 2E01000A", 1}},
+    /* the printed example, and a load that goes at once: two rounds */
+    {"F0070003 2B010005 13020001000100 0C010200", {"F0070003 2B010005 2B02000A 0C010200", 1}, {"F0070003 2B010005 2B02000A 0C010200", 1}},
+    {"F0070002 2B010005 28010001", {"F0070001 28010001", 1}, {"F0070001 28010001", 1}},
+    /* what only the fuller rewrite folds stays */
+    {"F0070002 2C010002 4301000100", UNCHANGED, UNCHANGED},
+    /* at rest as sent */
+    {"", UNCHANGED, UNCHANGED},
+    {"F0070002 2B010005 0C010100", UNCHANGED, UNCHANGED},
+    {"4096*F00700", UNCHANGED, UNCHANGED},
+    /* three functions, of which each takes another number of rounds */
+    {"F0070002 2B010005 0C010100 F0080002 2B010005 28010001 F0090002 2B010005 13010001000100",
+     {"F0070002 2B010005 0C010100 F0080001 28010001 F0090002 2B010005 2B01000A", 2},
+     {"F0070002 2B010005 0C010100 F0080001 28010001 F0090001 2B01000A", 3}},
+    /* the longest function: 2,047 folds, then 2,047 loads that go */
+    {"F007000008 2B0100 2047*13010001000100", {"F007000008 2048*2B0100", 2047}, {"F0070001 2B0100", 4094}},
+};
+
 /* Pages, document 02's W1: an image and its lines, without their line feeds. */
 static const struct paged {
     const char *image, *lines[5];
@@ -888,6 +924,7 @@ int main(void)
             try_refused("crystalfold", matchdesk_crystalfold, c->image, c->site_check);
             try_refused("rewrite", matchdesk_rewrite, c->image, c->site_check);
             try_refused("rewrite_fuller", matchdesk_rewrite_fuller, c->image, c->site_check);
+            try_refused("rewrite_until_rest", matchdesk_rewrite_until_rest, c->image, c->site_check);
             /* whatever is lent: 30 comes behind the check, and there is no 5 */
             size_t length = send(c->image);
             try_output("pages", matchdesk_pages, c->image, length, 0, c->site_check, expected, 0);
@@ -919,6 +956,15 @@ int main(void)
         try_written("crystalfold", matchdesk_crystalfold, fuller[i].image, unchanged);
         try_written("rewrite", matchdesk_rewrite, fuller[i].image, unchanged);
         try_written("rewrite_fuller", matchdesk_rewrite_fuller, fuller[i].image, fuller[i].fuller);
+    }
+    for (size_t i = 0; i < sizeof rested / sizeof *rested; i++) {
+        struct written unchanged = UNCHANGED;
+        const char *result = rested[i].rest.image != NULL ? rested[i].rest.image : rested[i].image;
+        try_written("rewrite", matchdesk_rewrite, rested[i].image, rested[i].once);
+        try_written("rewrite_until_rest", matchdesk_rewrite_until_rest, rested[i].image, rested[i].rest);
+        /* a further rewrite changes no byte */
+        try_written("rewrite", matchdesk_rewrite, result, unchanged);
+        try_written("rewrite_until_rest", matchdesk_rewrite_until_rest, result, unchanged);
     }
     for (size_t i = 0; i < sizeof paged / sizeof *paged; i++) {
         size_t bytes = lines(paged[i].lines, sizeof paged[i].lines / sizeof *paged[i].lines, expected);

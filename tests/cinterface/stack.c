@@ -1,6 +1,6 @@
 /*
  * How much stack each function takes: it runs on a painted stack, and the paint that is gone is counted. The header's MATCHDESK_STACK must
- * cover it.
+ * cover it, and MATCHDESK_STACK_UNTIL_REST that of matchdesk_rewrite_until_rest.
  */
 #include <stdint.h>
 #include <ucontext.h>
@@ -21,6 +21,7 @@ static void cleanup(void) { number = matchdesk_cleanup(image, length, out, sizeo
 static void crystalfold(void) { number = matchdesk_crystalfold(image, length, out, sizeof out, &first, &second); }
 static void rewrite(void) { number = matchdesk_rewrite(image, length, out, sizeof out, &first, &second); }
 static void rewrite_fuller(void) { number = matchdesk_rewrite_fuller(image, length, out, sizeof out, &first, &second); }
+static void rewrite_until_rest(void) { number = matchdesk_rewrite_until_rest(image, length, out, sizeof out, &first, &second); }
 static void pages(void) { number = matchdesk_pages(image, length, out, sizeof out, &first, &second); }
 static void pack(void) { number = matchdesk_pack(image, length, out, sizeof out, &first, &second); }
 static void unpack(void) { number = matchdesk_unpack(packed, packed_length, out, sizeof out, &first, &second); }
@@ -38,6 +39,9 @@ static const struct function functions[] = {
     {"image_check", image_check, 1}, {"site_check", site_check, 1}, {"cleanup", cleanup, 1}, {"crystalfold", crystalfold, 1},
     {"rewrite", rewrite, 1}, {"rewrite_fuller", rewrite_fuller, 1}, {"pages", pages, 1}, {"pack", pack, 1}, {"unpack", unpack, 32},
 };
+
+/* This one has memory for an image. */
+static const struct function until_rest = {"rewrite_until_rest", rewrite_until_rest, 1};
 
 /* These take no image. They are called on every two of the numbers, whether a factor is found or not. */
 static const struct function factors[] = {{"factor_fx", factor_fx, 0}, {"factor_i32", factor_i32, 0}};
@@ -95,37 +99,50 @@ static size_t deepest_of_factors(void (*call)(void))
     return deepest;
 }
 
+static const char *texts[] = {
+    "", "=00", "F0070001 2B010005", "F007000008 2048*0A0100", "F007000008 2B010005 2047*13020001000100", "F007000008 2B0100 2047*13010001000100",
+    "F007000008 2C010002 2047*3D030001000100", "F007000008 2C010002 2047*42030001000100",
+    "F0070000080004 290100000000000000F03F 2047*25020001000100 1024*00", "F007000008 2048*28010001", "4096*F00700",
+};
+
+static size_t deepest_of_images(const struct function *f)
+{
+    size_t deepest = 0;
+    for (size_t i = 0; i <= sizeof texts / sizeof *texts; i++) {
+        if (i < sizeof texts / sizeof *texts)
+            length = assemble(texts[i], image);
+        else
+            many_sites();
+        pack_image();
+        size_t bytes = used(f->call);
+        if (number != (i == 1 ? f->refusal : 0)) {
+            printf("stack: %s answers %zu %zu %zu on image %zu\n", f->name, number, first, second, i);
+            exit(1);
+        }
+        deepest = bytes > deepest ? bytes : deepest;
+    }
+    return deepest;
+}
+
+static size_t show(const char *name, size_t bytes)
+{
+    printf("stack of %s: %zu bytes\n", name, bytes);
+    return bytes;
+}
+
 int main(void)
 {
-    static const char *texts[] = {
-        "", "=00", "F0070001 2B010005", "F007000008 2048*0A0100", "F007000008 2B010005 2047*13020001000100", "F007000008 2C010002 2047*3D030001000100",
-        "F007000008 2C010002 2047*42030001000100",
-        "F0070000080004 290100000000000000F03F 2047*25020001000100 1024*00", "F007000008 2048*28010001", "4096*F00700",
-    };
     size_t most = 0;
     for (size_t f = 0; f < sizeof functions / sizeof *functions; f++) {
-        size_t deepest = 0;
-        for (size_t i = 0; i <= sizeof texts / sizeof *texts; i++) {
-            if (i < sizeof texts / sizeof *texts)
-                length = assemble(texts[i], image);
-            else
-                many_sites();
-            pack_image();
-            size_t bytes = used(functions[f].call);
-            if (number != (i == 1 ? functions[f].refusal : 0)) {
-                printf("stack: %s answers %zu %zu %zu on image %zu\n", functions[f].name, number, first, second, i);
-                return 1;
-            }
-            deepest = bytes > deepest ? bytes : deepest;
-        }
-        printf("stack of %s: %zu bytes\n", functions[f].name, deepest);
-        most = deepest > most ? deepest : most;
+        size_t bytes = show(functions[f].name, deepest_of_images(&functions[f]));
+        most = bytes > most ? bytes : most;
     }
     for (size_t f = 0; f < sizeof factors / sizeof *factors; f++) {
-        size_t deepest = deepest_of_factors(factors[f].call);
-        printf("stack of %s: %zu bytes\n", factors[f].name, deepest);
-        most = deepest > most ? deepest : most;
+        size_t bytes = show(factors[f].name, deepest_of_factors(factors[f].call));
+        most = bytes > most ? bytes : most;
     }
-    printf("stack: at most %zu bytes, %s MATCHDESK_STACK, which is %d\n", most, most <= MATCHDESK_STACK ? "within" : "ABOVE", MATCHDESK_STACK);
-    return most > MATCHDESK_STACK;
+    size_t rest = show(until_rest.name, deepest_of_images(&until_rest));
+    int above = most > MATCHDESK_STACK || rest > MATCHDESK_STACK_UNTIL_REST;
+    printf("stack: at most %zu bytes of %d, until it rests %zu of %d: %s\n", most, MATCHDESK_STACK, rest, MATCHDESK_STACK_UNTIL_REST, above ? "ABOVE" : "within");
+    return above;
 }

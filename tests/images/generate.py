@@ -26,7 +26,7 @@ CASES = os.path.join(ROOT, "crates", "cases_passes")
 SAMPLE = os.path.join(ROOT, "tests", "differential", "sample.bin")
 
 GROUP, NAME, IMAGE, OUTPUT = range(4)
-IMAGE_CHECK, SITE_CHECK, CLEANUP, CRYSTALFOLD, REWRITE, FULLER, PAGES, PACK, UNPACK = range(16, 25)
+IMAGE_CHECK, SITE_CHECK, CLEANUP, CRYSTALFOLD, REWRITE, FULLER, PAGES, PACK, UNPACK, REST = range(16, 26)
 
 # The commands 01 to 51 by the Rust's names, each with the widths of its operands: document 01's, in the order in which the Rust's arm names them.
 COMMANDS = """
@@ -71,10 +71,13 @@ def function(code):
     return ("F00700%02X %s" % (len(code.split()), code)).strip()
 
 
-def good(name, image, cleanup=None, crystalfold=None, rewrite=None, fuller=None):
-    """An image that both checks pass; None is the image itself and no rewrite, of the fuller rewrite what the default one gives."""
+def good(name, image, cleanup=None, crystalfold=None, rewrite=None, fuller=None, rest=None):
+    """An image that both checks pass; None is the image itself and no rewrite, of the fuller rewrite what the default one gives. Of the rewrite until
+    it rests it is the image itself only where the default rewrite leaves that, since then its first round reports 0; else nothing is said."""
     same = (image, 0)
     answers = {CLEANUP: cleanup or same, CRYSTALFOLD: crystalfold or same, REWRITE: rewrite or same, FULLER: fuller or rewrite or same}
+    if rest or not rewrite:
+        answers[REST] = rest or same
     return Row(name, image, {IMAGE_CHECK: ("", 0), SITE_CHECK: ("", 0), **answers})
 
 
@@ -103,9 +106,19 @@ def kept(name, code):
     return good(name, function(code))
 
 
+def cleaned_twice(name, image, output, count, rest, total):
+    """Changed by cleanup alone, in one round and in all."""
+    return good(name, image, cleanup=(output, count), rewrite=(output, count), rest=(rest, total))
+
+
+def folded_then_cleaned(name, code, output, count, rest, total):
+    """A function's instruction cells, changed by CrystalFold in the first round and by cleanup in the second."""
+    return good(name, function(code), crystalfold=(function(output), count), rewrite=(function(output), count), rest=(function(rest), total))
+
+
 def refused(name, image, number, position, detail):
     """Refusals from 11 on are the site check's alone; the operations refuse as it does."""
-    answers = dict.fromkeys((IMAGE_CHECK, SITE_CHECK, CLEANUP, CRYSTALFOLD, REWRITE, FULLER, PAGES), (number, position, detail))
+    answers = dict.fromkeys((IMAGE_CHECK, SITE_CHECK, CLEANUP, CRYSTALFOLD, REWRITE, FULLER, PAGES, REST), (number, position, detail))
     if 11 <= number:
         answers[IMAGE_CHECK] = ("", 0)
     return Row(name, image, answers)
@@ -845,6 +858,61 @@ GROUPS = [
         refused("65,552 bytes", "F0*4096@1 F0", 1, 0, 0),
     ]),
     # the printed example; heads alone; events behind instructions, whose positions go on; capital digits, all of the last 15 bytes
+    # document 02, W11: what one round writes, and what is written when it rests, with the sum of the counts
+    ("rest, a load overwritten by a folded one", [
+        folded_then_cleaned("LoadI32 r1 5, AddI32 r1 r1 r1: three rounds", "2B010005 13010001000100", "2B010005 2B01000A", 1, "2B01000A", 2),
+        folded_then_cleaned("a folded load overwritten by the next", "2B010005 13020001000100 2B020007", "2B010005 2B02000A 2B020007", 1, "2B010005 2B020007", 2),
+        folded_then_cleaned("two folds into one register", "2B010005 13020001000100 13020001000100 0C010200", "2B010005 2B02000A 2B02000A 0C010200", 2,
+                            "2B010005 2B02000A 0C010200", 3),
+        folded_then_cleaned("a chain of three into one register", "2B010001 13010001000100 13010001000100 13010001000100", "2B010001 2B010002 2B010004 2B010008", 3,
+                            "2B010008", 6),
+        folded_then_cleaned("a folded load of another kind", "2B010005 19010001000100", "2B010005 28010001", 1, "28010001", 2),
+        folded_then_cleaned("LoadBool, BoolNot", "28010001 1701000100", "28010001 280100", 1, "280100", 2),
+        folded_then_cleaned("LoadF64, AddF64", "290100000000000000F03F 11010001000100", "290100000000000000F03F 2901000000000000000040", 1, "2901000000000000000040", 2),
+        folded_then_cleaned("LoadFx, AddFx", "2A0100DC05 12010001000100", "2A0100DC05 2A0100B80B", 1, "2A0100B80B", 2),
+        folded_then_cleaned("LoadQ, QNot", "2C010002 3F01000100", "2C010002 2C010001", 1, "2C010001", 2),
+        folded_then_cleaned("LoadU32, AddU32, of which neither goes: two rounds", "2E010005 1E010001000100", "2E010005 2E01000A", 1, "2E010005 2E01000A", 1),
+        folded_then_cleaned("LoadU32, CmpEq: the LoadU32 stays", "2E010005 19010001000100", "2E010005 28010001", 1, "2E010005 28010001", 1),
+        folded_then_cleaned("LoadI32 r257, AddI32 r1: two registers", "2B010105 13010001010101", "2B010105 2B01000A", 1, "2B010105 2B01000A", 1),
+        folded_then_cleaned("registers 1,023", "2BFF0305 13FF03FF03FF03", "2BFF0305 2BFF030A", 1, "2BFF030A", 2),
+        folded_then_cleaned("the printed example: two rounds", "2B010005 13020001000100 0C010200", "2B010005 2B02000A 0C010200", 1, "2B010005 2B02000A 0C010200", 1),
+        kept("a label between: one round", "2B010005 0A0100 13010001000100"),
+        fuller("QTruthNot, which only the fuller rewrite folds: one round", "2C010002 4301000100", "2C010002 2C010001", 1),
+    ]),
+    ("rest, labels", [
+        cleaned_twice("Label 1, Jmp 1, Label 1: three rounds", "F0070003 0A0100 080100 0A0100", "F0070002 0A0100 0A0100", 1, "F0070001 0A0100", 2),
+        cleaned_twice("two such jumps", "F0070005 0A0100 080100 0A0100 080100 0A0100", "F0070003 0A0100 0A0100 0A0100", 2, "F0070001 0A0100", 4),
+        cleaned_twice("what is unreachable goes in the first round", "F0070004 0A0100 080100 2B010005 0A0100", "F0070002 0A0100 0A0100", 2, "F0070001 0A0100", 3),
+        cleaned_twice("other labels: two rounds", "F0070003 0A0100 080200 0A0200", "F0070002 0A0100 0A0200", 1, "F0070002 0A0100 0A0200", 1),
+        cleaned_twice("a load that goes at once: two rounds", "F0070002 2B010005 28010001", "F0070001 28010001", 1, "F0070001 28010001", 1),
+        good("labels and a fold", "F0070006 0A0100 080100 0A0100 2B010005 13010001000100 0C010100",
+             cleanup=("F0070005 0A0100 0A0100 2B010005 13010001000100 0C010100", 1), crystalfold=("F0070006 0A0100 080100 0A0100 2B010005 2B01000A 0C010100", 1),
+             rewrite=("F0070005 0A0100 0A0100 2B010005 2B01000A 0C010100", 2), rest=("F0070003 0A0100 2B01000A 0C010100", 4)),
+    ]),
+    ("rest, functions and events", [
+        good("an event goes in the first round, and one stays", "F0070005000200 4D000000000108 2B010005 13010001000100 0C 4D000000000109 000109 000108",
+             cleanup=("F0070004000100 4D000000000108 2B010005 13010001000100 0C 000108", 1),
+             crystalfold=("F0070005000200 4D000000000108 2B010005 2B01000A 0C 4D000000000109 000109 000108", 1),
+             rewrite=("F0070004000100 4D000000000108 2B010005 2B01000A 0C 000108", 2), rest=("F0070003000100 4D000000000108 2B01000A 0C 000108", 3)),
+        good("of three functions each takes another number of rounds", "F0070002 2B010005 0C010100 F0080002 2B010005 28010001 F0090002 2B010005 13010001000100",
+             cleanup=("F0070002 2B010005 0C010100 F0080001 28010001 F0090002 2B010005 13010001000100", 1),
+             crystalfold=("F0070002 2B010005 0C010100 F0080002 2B010005 28010001 F0090002 2B010005 2B01000A", 1),
+             rewrite=("F0070002 2B010005 0C010100 F0080001 28010001 F0090002 2B010005 2B01000A", 2),
+             rest=("F0070002 2B010005 0C010100 F0080001 28010001 F0090001 2B01000A", 3)),
+        good("nothing", ""),
+        good("functions with no cells", "F001 F002 F003"),
+        *joined(folded_then_cleaned("a load overwritten by a folded one", "2B010005 13010001000100", "2B010005 2B01000A", 1, "2B01000A", 2),
+                cleaned_twice("Label 1, Jmp 1, Label 1", "F0080003 0A0100 080100 0A0100", "F0080002 0A0100 0A0100", 1, "F0080001 0A0100", 2)),
+        *joined(folded_then_cleaned("a load overwritten by a folded one", "2B010005 13010001000100", "2B010005 2B01000A", 1, "2B01000A", 2),
+                refused("24", "F0070001 320000000000000105", 24, 0, 5)),
+    ]),
+    ("rest, longest", [
+        good("2,047 folds, then 2,047 loads that go", "F007000008 2B0100 13010001000100*2047", crystalfold=("F007000008 2B0100*2048", 2047),
+             rewrite=("F007000008 2B0100*2048", 2047), rest=("F0070001 2B0100", 4094)),
+        good("65,536 bytes", "F00700FF07 2B0100 13010001000100*2046 F00800FF07 2B0100 13010001000100*2046",
+             crystalfold=("F00700FF07 2B0100*2047 F00800FF07 2B0100*2047", 4092), rewrite=("F00700FF07 2B0100*2047 F00800FF07 2B0100*2047", 4092),
+             rest=("F0070001 2B0100 F0080001 2B0100", 8184)),
+    ]),
     ("pages, whole", [
         laid("nothing", ""),
         laid("the printed example", "F0070003 2B010005 13020001000100 0C0102",

@@ -28,6 +28,7 @@ use Rattle.passes.specs.declared.Pass.{Pass}
 use Rattle.crystalfold.specs.declared.rules.RuleSet.{RuleSet}
 use Rattle.passes.specs.declared.Rewrite.{Rewrite}
 use Rattle.passes.specs.declared.Rewrite.the-variants.{Written, Refused}
+use Rattle.rest.specs.Contracts.{RestDone}
 use Rattle.factor.specs.Claim.{FactorFound}
 use Rattle.factor.specs.Factor.{factorFx, factorI32}
 use Rattle.factor.proofs.Claim.{factors-found-fx, factors-found-i32}
@@ -40,7 +41,7 @@ use Rattle.factor.specs.declared.Factor.the-variants.{Found, NoFactor}
 use Rattle.leaves.specs.declared.constant.ConstVal.{ConstVal}
 use Rattle.leaves.specs.declared.verdict.Verdict.{Verdict}
 use Rattle.capi.specs.Replies.{checkReply, rewriteReply, pagesReply, packingReply, factorReply}
-use Rattle.capi.specs.Contracts.{ImageReplied, SitesReplied, PassReplied, RewriteReplied, PagesReplied, PackReplied, UnpackReplied, FactorReplied}
+use Rattle.capi.specs.Contracts.{ImageReplied, SitesReplied, PassReplied, RewriteReplied, RestReplied, PagesReplied, PackReplied, UnpackReplied, FactorReplied}
 use Rattle.capi.specs.declared.FactorReply.{FactorReply}
 use Rattle.capi.specs.declared.Reply.{Reply}
 
@@ -109,6 +110,14 @@ rewrite-replied k s before after r q h e = record {
   reply = e ∙ ap rewriteReply (h .done .answer);
   accepted = via e (rewrite-zero r) (h .done .accepted);
   done = rw (sym (h .done .answer)) h;
+}
+
+pub rest-replied : (k : RuleSet) (s before after : List ℕ) (r : Rewrite) (q : Reply) → RestDone k s before after r → q ≡ rewriteReply r
+    → RestReplied k s before after (q .number) (q .first) (q .second)
+rest-replied k s before after r q h e = record {
+  reply = e ∙ ap rewriteReply (h .answer);
+  accepted = via e (rewrite-zero r) (h .accepted);
+  done = rw (sym (h .answer)) h;
 }
 
 pub pages-replied : (s before after : List ℕ) (r : Paged) (q : Reply) → PagesDone s before after r → q ≡ pagesReply r

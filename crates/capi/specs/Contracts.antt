@@ -16,6 +16,8 @@ use Rattle.passes.specs.Passes.{passAnswer}
 use Rattle.passes.specs.Contracts.{PassDone, RewriteDone}
 use Rattle.passes.specs.declared.Pass.{Pass}
 use Rattle.passes.specs.declared.Pass.the-variants.{Both}
+use Rattle.rest.specs.Contracts.{RestDone}
+use Rattle.rest.specs.Rounds.{restAnswer}
 use Rattle.crystalfold.specs.declared.rules.RuleSet.{RuleSet}
 use Rattle.factor.specs.Claim.{IsFactor, Nearest}
 use Rattle.factor.specs.declared.Factor.{Factor}
@@ -42,6 +44,13 @@ pub record RewriteReplied (k : RuleSet) (s before after : List ℕ) (number firs
   pub reply : three number first second ≡ rewriteReply (passAnswer (Both k) s (length before))
   pub accepted : (number ≡ 0) ↔ (SitesPass s × (length s ≤ length before))
   pub done : RewriteDone k s before after (passAnswer (Both k) s (length before))
+
+-- the rewrite until it rests, by the rule set k
+pub record RestReplied (k : RuleSet) (s before after : List ℕ) (number first second : ℕ) : Type 0 where
+  pub reply : three number first second ≡ rewriteReply (restAnswer k s (length before))
+  pub accepted : (number ≡ 0) ↔ (SitesPass s × (length s ≤ length before))
+  -- every byte of the output, and all that `rewrite_until_rest` promises
+  pub done : RestDone k s before after (restAnswer k s (length before))
 
 -- the pages
 pub record PagesReplied (s before after : List ℕ) (number first second : ℕ) : Type 0 where

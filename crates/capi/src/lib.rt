@@ -13,7 +13,7 @@ ghost use Rattle.leaves.specs.Fixed.{mulFx};
 ghost use Rattle.leaves.specs.Signed.{mulI32};
 ghost use Rattle.leaves.specs.declared.constant.ConstVal.the-variants.{I32, Fx};
 ghost use Rattle.capi.specs.Replies.{refusalReply, checkReply, rewriteReply, pagesReply, packingReply, factorReply};
-ghost use Rattle.capi.specs.Contracts.{ImageReplied, SitesReplied, PassReplied, RewriteReplied, PagesReplied, PackReplied, UnpackReplied, FactorReplied};
+ghost use Rattle.capi.specs.Contracts.{ImageReplied, SitesReplied, PassReplied, RewriteReplied, RestReplied, PagesReplied, PackReplied, UnpackReplied, FactorReplied};
 
 // An answer in three numbers: 0 or the refusal's number, then two more.
 pub struct Reply {
@@ -117,6 +117,22 @@ pub extern "C" fn matchdesk_rewrite_fuller(
     ensures { λ r. ⌜ RewriteReplied Fuller (now (image .entry)) (now (out .entry)) (now (out .exit)) r (now (first .exit)) (now (second .exit)) ⌝ }
 {
     let r = reply_of_rewrite(passes::run_fuller_opt_passes(image, out));
+    *first = r.first;
+    *second = r.second;
+    r.number
+}
+
+// The default rewrite until it rests: 0, the last round's length and the sum of the counts; or the refusal's number, position and detail.
+#[no_mangle]
+pub extern "C" fn matchdesk_rewrite_until_rest(
+    image: &[u8],
+    out: &mut [u8],
+    first: &mut usize,
+    second: &mut usize,
+) -> usize
+    ensures { λ r. ⌜ RestReplied Default (now (image .entry)) (now (out .entry)) (now (out .exit)) r (now (first .exit)) (now (second .exit)) ⌝ }
+{
+    let r = reply_of_rewrite(rest::rewrite_until_rest(image, out));
     *first = r.first;
     *second = r.second;
     r.number

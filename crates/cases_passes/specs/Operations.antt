@@ -22,8 +22,9 @@ use Rattle.passes.specs.Passes.{passAnswer, passOutput}
 use Rattle.passes.specs.declared.Pass.the-variants.{Cleanup as CleanupPass, CrystalFold as CrystalFoldPass, Both}
 use Rattle.passes.specs.declared.Rewrite.{Rewrite}
 use Rattle.passes.specs.declared.Rewrite.the-variants.{Written, Refused}
+use Rattle.rest.specs.Rounds.{restAnswer, restOutput}
 use Rattle.cases_passes.specs.declared.operation.Operation.{Operation}
-use Rattle.cases_passes.specs.declared.operation.Operation.the-variants.{ImageCheck, SiteCheck, Cleanup, CrystalFold, Default, Fuller, Pages, Pack, Unpack}
+use Rattle.cases_passes.specs.declared.operation.Operation.the-variants.{ImageCheck, SiteCheck, Cleanup, CrystalFold, Default, Fuller, Pages, Pack, Unpack, Rest}
 use Rattle.cases_passes.specs.declared.operation.Asked.{Asked}
 use Rattle.cases_passes.specs.declared.operation.Asked.the-variants.{Run, Unknown}
 use Rattle.cases_passes.specs.declared.operation.Reply.{Reply}
@@ -38,7 +39,8 @@ askedBy n =
     (cond (eqb n 21) (Run Fuller)
     (cond (eqb n 22) (Run Pages)
     (cond (eqb n 23) (Run Pack)
-    (cond (eqb n 24) (Run Unpack) Unknown))))))))
+    (cond (eqb n 24) (Run Unpack)
+    (cond (eqb n 25) (Run Rest) Unknown)))))))))
 
 -- "success gives the length written and the report"; "the two checks .. on success answer only that"
 abbrev pub goodReply : ℕ → ℕ → Bool → Reply
@@ -76,6 +78,7 @@ answer Fuller s n = rewriteReply (passAnswer (Both FullerRules) s n)
 answer Pages s n = pagesReply (pagesAnswer s n)
 answer Pack s n = packingReply (answerOf (packResult s) n)
 answer Unpack s n = packingReply (answerOf (unpackResult s) n)
+answer Rest s n = rewriteReply (restAnswer DefaultRules s n)
 
 -- what the lent bytes then are; "the two checks write nothing"
 abbrev pub output : Operation → List ℕ → List ℕ → List ℕ
@@ -88,3 +91,4 @@ output Fuller s before = passOutput (Both FullerRules) s before
 output Pages s before = pagesOutput s before
 output Pack s before = outputOf (packResult s) before
 output Unpack s before = outputOf (unpackResult s) before
+output Rest s before = restOutput DefaultRules s before

@@ -22,6 +22,7 @@ pub enum Operation {
     Pages,
     Pack,
     Unpack,
+    Rest,
 }
 
 // What a byte asks for.
@@ -53,6 +54,7 @@ pub fn asked_by(byte: u8) -> Asked
         22 => Asked::Run(Operation::Pages),
         23 => Asked::Run(Operation::Pack),
         24 => Asked::Run(Operation::Unpack),
+        25 => Asked::Run(Operation::Rest),
         _ => Asked::Unknown,
     }
 }
@@ -72,6 +74,7 @@ pub fn run(operation: Operation, image: &[u8], out: &mut [u8]) -> Reply
         Operation::Pages => of_pages(pages::pages(image, out)),
         Operation::Pack => of_packing(packed::pack(image, out)),
         Operation::Unpack => of_packing(packed::unpack(image, out)),
+        Operation::Rest => of_rewrite(rest::rewrite_until_rest(image, out)),
     }
 }
 

@@ -31,7 +31,7 @@ once-seek l (i ∷ a) j p o e = by-test (alike (some l) (labelOf i))
     cc)
     (λ y. rw y (once-seek l a j p (o .1) e))
 
-jump-is : (i : Ins) (l : ℕ) → jumpOf i ≡ some l → i ≡ jmp l
+pub jump-is : (i : Ins) (l : ℕ) → jumpOf i ≡ some l → i ≡ jmp l
 jump-is (load d v) l e = cc
 jump-is (comp c o d a b) l e = cc
 jump-is (label k) l e = cc

@@ -29,7 +29,7 @@ removable-is d e (i32 n) x = cc
 removable-is d e (u32 n) x = cc
 removable-is d e (fx n) x = cc
 
-load-is : (i : Ins) (d : ℕ) → removableLoad i ≡ some d → (v : Const) × (i ≡ load d v)
+pub load-is : (i : Ins) (d : ℕ) → removableLoad i ≡ some d → (v : Const) × (i ≡ load d v)
 load-is (load e v) d x = (v, ap (λ k. load k v) (removable-is d e v x))
 load-is (comp c o e a b) d x = (u32 0, cc)
 load-is (label l) d x = (u32 0, cc)

@@ -19,13 +19,18 @@ use Rattle.passes.specs.declared.Pass.{Pass}
 use Rattle.passes.specs.declared.Pass.the-variants.{Both}
 use Rattle.passes.specs.declared.Rewrite.the-variants.{Refused}
 use Rattle.passes.proofs.Checked.{check-long}
+use Rattle.rest.specs.Rounds.{restAnswer}
 use Rattle.matchdesk.specs.Program.{resultTexts, programTexts, LongInputs}
 use Rattle.matchdesk.specs.declared.Job.{Job}
-use Rattle.matchdesk.specs.declared.Job.the-variants.{Rewrite as RewriteJob, Bytes, Check, Pages, Pack, Unpack}
+use Rattle.matchdesk.specs.declared.Job.the-variants.{Rewrite as RewriteJob, Rest, Bytes, Check, Pages, Pack, Unpack}
 
 answer-long : (p : Pass) (image : List ℕ) → maxImage < length image → passAnswer p image maxImage ≡ Refused Length
 unfolding passAnswer
 answer-long p image h = rw (← check-long image maxImage h)
+
+rest-long : (image : List ℕ) → maxImage < length image → restAnswer Default image maxImage ≡ Refused Length
+unfolding restAnswer
+rest-long image h = rw (← check-long image maxImage h)
 
 site-long : (image : List ℕ) → maxImage < length image → siteAnswer image ≡ RefusedBy Length
 unfolding siteAnswer imageAnswer
@@ -41,6 +46,7 @@ unpack-long s t e = sym (first-bytes-decide s maxImage (omega arith)) ∙ ap unp
 -- an image so long is refused, whatever its bytes are
 abbrev pub ReadsImage : Job → Type 0
 ReadsImage (RewriteJob rules) = Unit {0}
+ReadsImage Rest = Unit {0}
 ReadsImage Bytes = Unit {0}
 ReadsImage Check = Unit {0}
 ReadsImage Pages = Unit {0}
@@ -50,6 +56,7 @@ ReadsImage Unpack = ⊥
 pub images-long : (job : Job) (s t : List ℕ) → ReadsImage job → maxImage < length s → maxImage < length t → programTexts job s ≡ programTexts job t
 unfolding programTexts
 images-long (RewriteJob rules) s t r h k = rw (answer-long (Both rules) s h, answer-long (Both rules) t k)
+images-long Rest s t r h k = rw (rest-long s h, rest-long t k)
 images-long Bytes s t r h k = rw (answer-long (Both Default) s h, answer-long (Both Default) t k)
 images-long Check s t r h k = rw (site-long s h, site-long t k)
 images-long Pages s t r h k = rw (site-long s h, site-long t k)
@@ -59,6 +66,7 @@ images-long Unpack s t r h k = absurd r
 pub long-inputs : LongInputs
 unfolding programTexts
 long-inputs (RewriteJob rules) s t h k e = images-long (RewriteJob rules) t s tt k h
+long-inputs Rest s t h k e = images-long Rest t s tt k h
 long-inputs Bytes s t h k e = images-long Bytes t s tt k h
 long-inputs Check s t h k e = images-long Check t s tt k h
 long-inputs Pages s t h k e = images-long Pages t s tt k h

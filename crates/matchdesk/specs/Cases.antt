@@ -32,8 +32,9 @@ use Rattle.packed.specs.Form.{rowSize, packed}
 use Rattle.packed.specs.Reading.{readCell, unpackFrom, unpacked}
 use Rattle.packed.specs.Operations.{packResult}
 use Rattle.pages.specs.Pages.{heading, cellLine as pageLine, pageLines, pagesText}
+use Rattle.rest.specs.Rounds.{restBytes, restCount, restAnswer}
 use Rattle.numbers.specs.Numbers.{numberIn}
-use Rattle.matchdesk.specs.Program.{Texts, onOutput, onError, askedFor, productFor, programTexts, factorTexts, rewriteWord, fullerWord, bytesWord, checkWord, pagesWord, packWord, unpackWord}
+use Rattle.matchdesk.specs.Program.{Texts, onOutput, onError, askedFor, productFor, programTexts, factorTexts, rewriteWord, fullerWord, restWord, bytesWord, checkWord, pagesWord, packWord, unpackWord}
 use Rattle.matchdesk.specs.declared.Asked.{Asked}
 use Rattle.matchdesk.specs.declared.Asked.the-variants.{For, Unknown}
 use Rattle.matchdesk.specs.declared.product.Chosen.{Chosen}
@@ -59,6 +60,10 @@ example = Head 7 3 0 ∷ LoadI32 1 5 ∷ AddI32 2 1 1 ∷ Ret 2 ∷ []
 
 rewritten : List Cell
 rewritten = Head 7 3 0 ∷ LoadI32 1 5 ∷ LoadI32 2 10 ∷ Ret 2 ∷ []
+
+-- document 02's LoadI32 r1 5, AddI32 r1 r1 r1 (W11)
+overwritten : List Cell
+overwritten = Head 7 2 0 ∷ LoadI32 1 5 ∷ AddI32 1 1 1 ∷ []
 
 -- LoadQ r1 F, QTruthNot r2 r1, Ret r2
 quads : List Cell
@@ -138,6 +143,13 @@ cases =
     cellLine (Head 7 3 0) ++ cellLine (LoadQ 1 1) ++ cellLine (QTruthNot 2 1) ++ cellLine (Ret 2) ++ count 48
     )))
     ∷ case bytesWord (flat quads) (some (onOutput (flat quads)))
+    -- until it rests: the last round's cells and the sum of the counts, where one rewrite leaves a load that is overwritten; and at rest as sent
+    ∷ case restWord (flat overwritten) (some (onOutput (cellLine (Head 7 1 0) ++ cellLine (LoadI32 1 10) ++ count 50)))
+    ∷ case rewriteWord (flat overwritten) (some (onOutput (cellLine (Head 7 2 0) ++ cellLine (LoadI32 1 5) ++ cellLine (LoadI32 1 10) ++ count 49)))
+    ∷ case restWord (flat quads) (some (onOutput (
+    cellLine (Head 7 3 0) ++ cellLine (LoadQ 1 1) ++ cellLine (QTruthNot 2 1) ++ cellLine (Ret 2) ++ count 48
+    )))
+    ∷ case restWord [] (some (onOutput (count 48)))
     -- a division by zero: the same
     ∷ case fullerWord (flat zeros) (some (onOutput (
     cellLine (Head 7 3 0) ++ cellLine (LoadF64 1 0x8000000000000000) ++ cellLine (LoadF64 2 0x7FF8000000000000) ++ cellLine (Ret 2) ++ count 49
@@ -160,6 +172,8 @@ cases =
     ∷ case rewriteWord (0 ∷ []) (some (onOutput (refused 49 48)))
     ∷ case fullerWord (0 ∷ []) (some (onOutput (refused 49 48)))
     ∷ case fullerWord (replicate 16 0) (some (onOutput (refused 50 48)))
+    ∷ case restWord (0 ∷ []) (some (onOutput (refused 49 48)))
+    ∷ case restWord (replicate 16 0) (some (onOutput (refused 50 48)))
     ∷ case bytesWord (0 ∷ []) (some (onError (refused 49 48)))
     ∷ case checkWord (replicate 16 0) (some (onOutput (refused 50 48)))
     ∷ case bytesWord (replicate 16 0) (some (onError (refused 50 48)))
@@ -203,7 +217,7 @@ cases =
     ∷ case unpackWord (promising ++ 0x2B ∷ 0 ∷ 4 ∷ 5 ∷ 0 ∷ 0 ∷ []) (some (onError (ascii "refused 32 0 1" ++ 10 ∷ [])))
     ∷ case unpackWord (0xF0 ∷ []) (some (onError (ascii "refused 32 0 0" ++ 10 ∷ [])))
     ∷ case unpackWord (examplePacked ++ 0 ∷ []) (some (onError (ascii "refused 32 1 4" ++ 10 ∷ [])))
-    -- no word: none at all, `byte`, `checks`, `full`, `page`, `packs`, `npack`
+    -- no word: none at all, `byte`, `checks`, `full`, `page`, `packs`, `npack`, `rests`, `res`
     ∷ case [] (flat example) none
     ∷ case (98 ∷ 121 ∷ 116 ∷ 101 ∷ []) (flat example) none
     ∷ case (checkWord ++ 115 ∷ []) (flat example) none
@@ -211,10 +225,12 @@ cases =
     ∷ case (112 ∷ 97 ∷ 103 ∷ 101 ∷ []) (flat example) none
     ∷ case (packWord ++ 115 ∷ []) (flat example) none
     ∷ case (110 ∷ packWord) examplePacked none
+    ∷ case (restWord ++ 115 ∷ []) (flat example) none
+    ∷ case (114 ∷ 101 ∷ 115 ∷ []) (flat example) none
     ∷ []
 
 pub worked : map (λ (c : ProgramCase). case (c .argument) (c .input) (doneFor (askedFor (c .argument)) (c .input))) cases ≡ cases
-unfolding doneFor example rewritten quads zeros apart beyond sited examplePacked sitedPacked unpaired unpairedPacked promising good refused count cases askedFor programTexts passAnswer passBytes passCheck passCount siteAnswer imageAnswer functions instructionCheck eventCheck headCheck rows siteOf eventSite siteBy repeatAnswer activationAnswer judgeBy cleanCode cleanCount cleanEvents cleanFunction foldCode foldsOf foldFunction defaultRules defaultTable fullerRules fullerTable note view loadCell quadOf classOf wrap addI32 decimal rewritesLine rewrittenText refusedText refusalText goodText floatOf bitsOf divF64 Ieee.eq Ieee.div Ieee.ofBits Ieee.toBits pagesText pageLines heading pageLine commandNames eventNames packResult packed rowSize unpacked unpackFrom readCell
+unfolding doneFor example rewritten overwritten quads zeros apart beyond sited examplePacked sitedPacked unpaired unpairedPacked promising good refused count cases askedFor programTexts passAnswer passBytes passCheck passCount restAnswer restBytes restCount siteAnswer imageAnswer functions instructionCheck eventCheck headCheck rows siteOf eventSite siteBy repeatAnswer activationAnswer judgeBy cleanCode cleanCount cleanEvents cleanFunction foldCode foldsOf foldFunction defaultRules defaultTable fullerRules fullerTable note view loadCell quadOf classOf wrap addI32 decimal rewritesLine rewrittenText refusedText refusalText goodText floatOf bitsOf divF64 Ieee.eq Ieee.div Ieee.ofBits Ieee.toBits pagesText pageLines heading pageLine commandNames eventNames packResult packed rowSize unpacked unpackFrom readCell
 worked = refl
 
 -- ---- the words of products

@@ -1,6 +1,6 @@
 -- Promise: what the program is asked for, and what it writes to standard output and to standard error for each job. The text of the rewrite's answer is
--- document 01's ('Cells on either edge', the last paragraph); of the fuller rewrite (document 02, W2) it is the same. The pages are document 02's (W1),
--- and so are the packed form (W8) and the other factor (W14), which is found without an image.
+-- document 01's ('Cells on either edge', the last paragraph); of the fuller rewrite (document 02, W2) and of the rewrite until it rests (W11) it is the
+-- same. The pages are document 02's (W1), and so are the packed form (W8) and the other factor (W14), which is found without an image.
 use mathlib.Core.Path.{_≡_}
 use mathlib.Core.List.{List, [], _∷_, _++_}
 use mathlib.Core.Bool.{Bool, true, false, cond, _&&_}
@@ -28,6 +28,7 @@ use Rattle.passes.specs.Passes.{passAnswer, passBytes, passOutput}
 use Rattle.passes.specs.declared.Pass.the-variants.{Both}
 use Rattle.passes.specs.declared.Rewrite.{Rewrite}
 use Rattle.passes.specs.declared.Rewrite.the-variants.{Written, Refused}
+use Rattle.rest.specs.Rounds.{restBytes, restAnswer, restOutput}
 use Rattle.numbers.specs.Numbers.{numberIn, signed}
 use Rattle.numbers.specs.declared.Number.{Number}
 use Rattle.numbers.specs.declared.Number.the-variants.{Value, NoNumber}
@@ -38,7 +39,7 @@ use Rattle.matchdesk.specs.declared.product.Product.the-variants.{Fx, I3
 use Rattle.matchdesk.specs.declared.Asked.{Asked}
 use Rattle.matchdesk.specs.declared.Asked.the-variants.{For, Unknown}
 use Rattle.matchdesk.specs.declared.Job.{Job}
-use Rattle.matchdesk.specs.declared.Job.the-variants.{Rewrite as RewriteJob, Bytes, Check, Pages, Pack, Unpack}
+use Rattle.matchdesk.specs.declared.Job.the-variants.{Rewrite as RewriteJob, Rest, Bytes, Check, Pages, Pack, Unpack}
 
 -- ---- the words
 
@@ -48,12 +49,15 @@ sameBytes [] (y ∷ ys) = false
 sameBytes (x ∷ xs) [] = false
 sameBytes (x ∷ xs) (y ∷ ys) = eqb x y && sameBytes xs ys
 
--- `rewrite`, `fuller`, `bytes`, `check`, `pages`, `pack` and `unpack`
+-- `rewrite`, `fuller`, `rest`, `bytes`, `check`, `pages`, `pack` and `unpack`
 abbrev pub rewriteWord : List ℕ
 rewriteWord = 114 ∷ 101 ∷ 119 ∷ 114 ∷ 105 ∷ 116 ∷ 101 ∷ []
 
 abbrev pub fullerWord : List ℕ
 fullerWord = 102 ∷ 117 ∷ 108 ∷ 108 ∷ 101 ∷ 114 ∷ []
+
+abbrev pub restWord : List ℕ
+restWord = 114 ∷ 101 ∷ 115 ∷ 116 ∷ []
 
 abbrev pub bytesWord : List ℕ
 bytesWord = 98 ∷ 121 ∷ 116 ∷ 101 ∷ 115 ∷ []
@@ -74,11 +78,12 @@ unfoldable pub askedFor : List ℕ → Asked
 askedFor word =
     cond (sameBytes word rewriteWord) (For (RewriteJob Default))
     (cond (sameBytes word fullerWord) (For (RewriteJob Fuller))
+    (cond (sameBytes word restWord) (For Rest)
     (cond (sameBytes word bytesWord) (For Bytes)
     (cond (sameBytes word checkWord) (For Check)
     (cond (sameBytes word pagesWord) (For Pages)
     (cond (sameBytes word packWord) (For Pack)
-    (cond (sameBytes word unpackWord) (For Unpack) Unknown))))))
+    (cond (sameBytes word unpackWord) (For Unpack) Unknown)))))))
 
 -- `fx` and `i32`
 abbrev pub fxWord : List ℕ
@@ -131,6 +136,7 @@ written r out = take (lengthWritten r) out
 -- what each job writes for its input, which is an image, for `unpack` a packed form; a rewrite is lent an output as long as the longest image
 unfoldable pub programTexts : Job → List ℕ → Texts
 programTexts (RewriteJob k) input = onOutput (answerText (passAnswer (Both k) input maxImage) (passBytes (Both k) input))
+programTexts Rest input = onOutput (answerText (restAnswer Default input maxImage) (restBytes Default input))
 programTexts Bytes input = answerBytes (passAnswer (Both Default) input maxImage) (passBytes (Both Default) input)
 programTexts Check input = onOutput (checkedText (siteAnswer input))
 programTexts Pages input = onOutput (laidText (siteAnswer input) (pagesText input))
@@ -148,6 +154,7 @@ LongInputs =
 -- what a job leaves in the output that it lends to a rewrite
 unfoldable pub workAfter : Job → List ℕ → List ℕ → List ℕ
 workAfter (RewriteJob k) input before = passOutput (Both k) input before
+workAfter Rest input before = restOutput Default input before
 workAfter Bytes input before = passOutput (Both Default) input before
 workAfter Check input before = before
 workAfter Pages input before = before

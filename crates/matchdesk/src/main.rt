@@ -29,10 +29,11 @@ use passes::Rewrite;
 use product::Chosen;
 use product::Product;
 
-// What the program can do: the text of a rewrite's answer, by a rule set; the rewritten image itself; the site check; the image's pages; its
-// packed form; and, of a packed form, the image.
+// What the program can do: the text of a rewrite's answer, by a rule set, or of the rewrite until it rests; the rewritten image itself; the site
+// check; the image's pages; its packed form; and, of a packed form, the image.
 enum Job {
     Rewrite(RuleSet),
+    Rest,
     Bytes,
     Check,
     Pages,
@@ -95,7 +96,7 @@ fn main() {
 fn usage() {
     io::write_all(
         STDERR_FILENO,
-        b"usage: matchdesk [rewrite | fuller | bytes | check | pages | pack] < image\n       matchdesk unpack < packed\n       matchdesk factor (fx | i32) WANTED FACTOR\n",
+        b"usage: matchdesk [rewrite | fuller | rest | bytes | check | pages | pack] < image\n       matchdesk unpack < packed\n       matchdesk factor (fx | i32) WANTED FACTOR\n",
     );
 }
 
@@ -161,6 +162,9 @@ fn job_of(word: &[u8]) -> Asked
     if check::same(word, b"fuller") {
         return Asked::For(Job::Rewrite(RuleSet::Fuller));
     }
+    if check::same(word, b"rest") {
+        return Asked::For(Job::Rest);
+    }
     if check::same(word, b"bytes") {
         return Asked::For(Job::Bytes);
     }
@@ -189,6 +193,13 @@ fn run(job: Job, input: &[u8], work: &mut [u8], output: &mut [u8], error: &mut [
     match job {
         Job::Rewrite(rules) => {
             let reply = passes::run_opt_passes(rules, input, work);
+            Said {
+                output: answer_text(reply, work, output),
+                error: 0,
+            }
+        }
+        Job::Rest => {
+            let reply = rest::rewrite_until_rest(input, work);
             Said {
                 output: answer_text(reply, work, output),
                 error: 0,

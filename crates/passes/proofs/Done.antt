@@ -112,10 +112,10 @@ module _ (p : Pass) (s : List ℕ) (g : SitesPass s) where
       let w : All WellFormed (passAll p fs) = rw (pass-map p fs) (handed-formed (passOne p) (one-formed p) (one-fewer p) s (g .image)) in
       length-flat (cellsOfAll (passAll p fs)) (all-full (passAll p fs) w)
 
-  bytes-again : SitesPass (passBytes p s)
+  pub bytes-again : SitesPass (passBytes p s)
   bytes-again = rw (bytes-are p s) (sites-again (passOne p) (one-formed p) (one-fewer p) (one-passes p) s g)
 
-  bytes-functions : functions (cells (passBytes p s)) ≡ passAll p (functions (cells s))
+  pub bytes-functions : functions (cells (passBytes p s)) ≡ passAll p (functions (cells s))
   bytes-functions =
       ap (λ (t : List ℕ). functions (cells t)) (bytes-are p s)
       ∙ handed-functions (passOne p) (one-formed p) (one-fewer p) s (g .image) ∙ sym (pass-map p (functions (cells s)))
@@ -192,7 +192,7 @@ each-claim k [] = tt
 each-claim k (f ∷ fs) = (set-claim k f, each-claim k fs)
 
 -- of every function of an accepted image
-each-preserved : (k : RuleSet) (fs : List Function) → All WellFormed fs → All GoodSites fs → All (Preserved (rulesOf k)) fs
+pub each-preserved : (k : RuleSet) (fs : List Function) → All WellFormed fs → All GoodSites fs → All (Preserved (rulesOf k)) fs
 each-preserved k [] w g = tt
 each-preserved k (f ∷ fs) w g =
     (preserved (rulesOf k) f 0 (w .0) (or-both _ _ (g .0 .activation 0) (g .0 .write 0)), each-preserved k fs (w .1) (g .1))

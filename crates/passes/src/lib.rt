@@ -95,7 +95,7 @@ fn run(pass: Pass, image: &[u8], out: &mut [u8]) -> Rewrite
 }
 
 // 1, then 5, then as the site check; the output has room bytes.
-fn check(image: &[u8], room: usize) -> Checked
+pub fn check(image: &[u8], room: usize) -> Checked
     ensures { λ r. ⌜ r ≡ passCheck (now (image .entry)) room ⌝ }
 {
     if MAX_IMAGE < image.len() {
@@ -117,7 +117,7 @@ pub struct Total {
 }
 
 // Every function, rewritten, one after another: cleanup over every function, then CrystalFold over every function, as the Rust does.
-fn rewrite_functions(pass: Pass, image: &[u8], out: &mut [u8]) -> Total
+pub fn rewrite_functions(pass: Pass, image: &[u8], out: &mut [u8]) -> Total
     requires { ⌜ (siteAnswer (now image) ≡ Good) × (length (now image) ≤ length (now out)) ⌝ }
     ensures { λ r. ⌜ AllWritten (passAll pass (functions (cells (now (image .entry))))) (countAll pass (functions (cells (now (image .entry))))) (now (out .entry)) (now (out .exit)) r ⌝ }
 {

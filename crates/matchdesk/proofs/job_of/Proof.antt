@@ -4,7 +4,7 @@ use mathlib.Core.Bool.{false}
 use mathlib.Core.List.{List}
 use Prim.Native.Nat.{ℕ}
 use denote.Ref.{now}
-use Rattle.matchdesk.specs.Program.{sameBytes, rewriteWord, fullerWord, bytesWord, checkWord, pagesWord, packWord, unpackWord, askedFor}
+use Rattle.matchdesk.specs.Program.{sameBytes, rewriteWord, fullerWord, restWord, bytesWord, checkWord, pagesWord, packWord, unpackWord, askedFor}
 use Rattle.matchdesk.proofs.Words.{same-test}
 use borrow.Author.Needs.{needs}
 use Rattle.matchdesk.proofs.job_of.Statement.{statement}
@@ -30,23 +30,29 @@ word₅ c = word₄ (c .before .before .before)
 abbrev word₆ : tie.Else6 → List ℕ
 word₆ c = word₅ (c .before .before .before)
 
+abbrev word₇ : tie.Else7 → List ℕ
+word₇ c = word₆ (c .before .before .before)
+
 not-rewrite : (c : tie.Else1) → sameBytes (word₁ c) rewriteWord ≡ false
 not-rewrite c = same-test _ _ rewriteWord (c .before .same .ensures) ∙ c .if1 .left
 
 not-fuller : (c : tie.Else2) → sameBytes (word₂ c) fullerWord ≡ false
 not-fuller c = same-test _ _ fullerWord (c .before .same2 .ensures) ∙ c .if2 .left
 
-not-bytes : (c : tie.Else3) → sameBytes (word₃ c) bytesWord ≡ false
-not-bytes c = same-test _ _ bytesWord (c .before .same3 .ensures) ∙ c .if3 .left
+not-rest : (c : tie.Else3) → sameBytes (word₃ c) restWord ≡ false
+not-rest c = same-test _ _ restWord (c .before .same3 .ensures) ∙ c .if3 .left
 
-not-check : (c : tie.Else4) → sameBytes (word₄ c) checkWord ≡ false
-not-check c = same-test _ _ checkWord (c .before .same4 .ensures) ∙ c .if4 .left
+not-bytes : (c : tie.Else4) → sameBytes (word₄ c) bytesWord ≡ false
+not-bytes c = same-test _ _ bytesWord (c .before .same4 .ensures) ∙ c .if4 .left
 
-not-pages : (c : tie.Else5) → sameBytes (word₅ c) pagesWord ≡ false
-not-pages c = same-test _ _ pagesWord (c .before .same5 .ensures) ∙ c .if5 .left
+not-check : (c : tie.Else5) → sameBytes (word₅ c) checkWord ≡ false
+not-check c = same-test _ _ checkWord (c .before .same5 .ensures) ∙ c .if5 .left
 
-not-pack : (c : tie.Else6) → sameBytes (word₆ c) packWord ≡ false
-not-pack c = same-test _ _ packWord (c .before .same6 .ensures) ∙ c .if6 .left
+not-pages : (c : tie.Else6) → sameBytes (word₆ c) pagesWord ≡ false
+not-pages c = same-test _ _ pagesWord (c .before .same6 .ensures) ∙ c .if6 .left
+
+not-pack : (c : tie.Else7) → sameBytes (word₇ c) packWord ≡ false
+not-pack c = same-test _ _ packWord (c .before .same7 .ensures) ∙ c .if7 .left
 
 -- ---- the answers
 
@@ -59,55 +65,67 @@ unfolding askedFor
 is-fuller c =
     rw (not-rewrite (c .before .before .before), same-test _ _ fullerWord (c .before .same2 .ensures) ∙ c .if2 .taken)
 
-is-bytes : tie.Need-returns-3
+is-rest : tie.Need-returns-3
+unfolding askedFor
+is-rest c =
+    let d = c .before .before .before in
+    rw (not-rewrite (d .before .before .before), not-fuller d, same-test _ _ restWord (c .before .same3 .ensures) ∙ c .if3 .taken)
+
+is-bytes : tie.Need-returns-4
 unfolding askedFor
 is-bytes c =
-    let d = c .before .before .before in
-    rw (not-rewrite (d .before .before .before), not-fuller d, same-test _ _ bytesWord (c .before .same3 .ensures) ∙ c .if3 .taken)
-
-is-check : tie.Need-returns-4
-unfolding askedFor
-is-check c =
     let e = c .before .before .before in
     let d = e .before .before .before in
-    rw (not-rewrite (d .before .before .before), not-fuller d, not-bytes e, same-test _ _ checkWord (c .before .same4 .ensures) ∙ c .if4 .taken)
+    rw (not-rewrite (d .before .before .before), not-fuller d, not-rest e, same-test _ _ bytesWord (c .before .same4 .ensures) ∙ c .if4 .taken)
 
-is-pages : tie.Need-returns-5
+is-check : tie.Need-returns-5
 unfolding askedFor
-is-pages c =
+is-check c =
     let f = c .before .before .before in
     let e = f .before .before .before in
     let d = e .before .before .before in
-    rw (not-rewrite (d .before .before .before), not-fuller d, not-bytes e, not-check f, same-test _ _ pagesWord (c .before .same5 .ensures) ∙ c .if5 .taken)
+    rw (not-rewrite (d .before .before .before), not-fuller d, not-rest e, not-bytes f, same-test _ _ checkWord (c .before .same5 .ensures) ∙ c .if5 .taken)
 
-is-pack : tie.Need-returns-6
+is-pages : tie.Need-returns-6
 unfolding askedFor
-is-pack c =
+is-pages c =
     let g = c .before .before .before in
     let f = g .before .before .before in
     let e = f .before .before .before in
     let d = e .before .before .before in
-    rw (not-rewrite (d .before .before .before), not-fuller d, not-bytes e, not-check f, not-pages g, same-test _ _ packWord (c .before .same6 .ensures) ∙ c .if6 .taken)
+    rw (not-rewrite (d .before .before .before), not-fuller d, not-rest e, not-bytes f, not-check g, same-test _ _ pagesWord (c .before .same6 .ensures) ∙ c .if6 .taken)
 
-is-unpack : tie.Need-returns-7
+is-pack : tie.Need-returns-7
+unfolding askedFor
+is-pack c =
+    let h = c .before .before .before in
+    let g = h .before .before .before in
+    let f = g .before .before .before in
+    let e = f .before .before .before in
+    let d = e .before .before .before in
+    rw (not-rewrite (d .before .before .before), not-fuller d, not-rest e, not-bytes f, not-check g, not-pages h, same-test _ _ packWord (c .before .same7 .ensures) ∙ c .if7 .taken)
+
+is-unpack : tie.Need-returns-8
 unfolding askedFor
 is-unpack c =
-    let h = c .before .before .before in
+    let i = c .before .before .before in
+    let h = i .before .before .before in
     let g = h .before .before .before in
     let f = g .before .before .before in
     let e = f .before .before .before in
     let d = e .before .before .before in
-    rw (not-rewrite (d .before .before .before), not-fuller d, not-bytes e, not-check f, not-pages g, not-pack h, same-test _ _ unpackWord (c .before .same7 .ensures) ∙ c .if7 .taken)
+    rw (not-rewrite (d .before .before .before), not-fuller d, not-rest e, not-bytes f, not-check g, not-pages h, not-pack i, same-test _ _ unpackWord (c .before .same8 .ensures) ∙ c .if8 .taken)
 
-is-none : tie.Need-returns-8
+is-none : tie.Need-returns-9
 unfolding askedFor
 is-none c =
-    let h = c .before .before .before in
+    let i = c .before .before .before in
+    let h = i .before .before .before in
     let g = h .before .before .before in
     let f = g .before .before .before in
     let e = f .before .before .before in
     let d = e .before .before .before in
-    rw (not-rewrite (d .before .before .before), not-fuller d, not-bytes e, not-check f, not-pages g, not-pack h, same-test _ _ unpackWord (c .before .same7 .ensures) ∙ c .if7 .left)
+    rw (not-rewrite (d .before .before .before), not-fuller d, not-rest e, not-bytes f, not-check g, not-pages h, not-pack i, same-test _ _ unpackWord (c .before .same8 .ensures) ∙ c .if8 .left)
 
 pub job-of-spec : {M : Type 1} → statement M
 job-of-spec =
@@ -119,6 +137,9 @@ job-of-spec =
     (λ c. search needs)
     (λ c κs. search needs)
     is-fuller
+    (λ c. search needs)
+    (λ c κs. search needs)
+    is-rest
     (λ c. search needs)
     (λ c κs. search needs)
     is-bytes

@@ -45,10 +45,18 @@ returns-9 c =
     let d = c .before .before .before .unpack .ensures .done in
     simp (c .of-packing2 .ensures, d .answer, d .bytes, c .before .before .before .before .before .enum-told9 .given .1) (refl, refl)
 
+returns-10 : tie.Need-returns-10
+returns-10 c =
+    let d = c .before .before .before .rewrite-until-rest .ensures in
+    simp (c .of-rewrite5 .ensures, d .answer, d .bytes, c .before .before .before .before .before .enum-told10 .given .1) (refl, refl)
+
 pub run-spec : {M : Type 1} → statement M
 run-spec =
     tie.close
     (tie.spec
+    (λ c. search needs)
+    (λ c κs. search needs)
+    (λ c κs. search needs)
     (λ c. search needs)
     (λ c κs. search needs)
     (λ c κs. search needs)
@@ -91,4 +99,6 @@ run-spec =
     (λ c. search needs)
     returns-8
     (λ c. search needs)
-    returns-9)
+    returns-9
+    (λ c. search needs)
+    returns-10)

@@ -1,0 +1,135 @@
+-- What `rewrite_until_rest` answers and writes: by the answer of its check, and by what its two rounds write.
+use mathlib.Core.Path.{_≡_, sym, _∙_, ap, ap₂}
+use mathlib.Core.List.{List, [], _∷_}
+use Prim.Native.Nat.{ℕ, _+_, _*_, _/_, _≤_}
+use native.Mathlib.Omega.{arith}
+use lib.ListN.{length, replicate, take, length-append, length-replicate}
+use Rattle.cells.specs.Check.{maxImage}
+use Rattle.cells.specs.Cells.{cells, over}
+use Rattle.cells.specs.Functions.{Function, functions, cellsOf, cellsOfAll}
+use Rattle.cells.specs.declared.refusal.Refusal.{Refusal}
+use Rattle.cells.specs.declared.refusal.Checked.{Checked}
+use Rattle.cells.specs.declared.refusal.Checked.the-variants.{Good, Refused as RefusedBy}
+use Rattle.cells.proofs.Cells.{length-cells}
+use Rattle.cells.proofs.Functions.{cells-of-functions}
+use Rattle.cells.proofs.Over.{over-take, length-over}
+use Rattle.crystalfold.specs.Rules.{rulesOf}
+use Rattle.crystalfold.specs.declared.rules.RuleSet.{RuleSet}
+use Rattle.rewrite.specs.AllFunctions.{sumOf}
+use Rattle.rewrite.proofs.EachFunction.{count-few}
+use Rattle.image.specs.SiteCheck.{siteAnswer, SitesPass}
+use Rattle.image.proofs.Good.{site-good}
+use Rattle.passes.specs.Passes.{passAll, countAll, passBytes, passCount, passCheck, answerAs, outputAs, report}
+use Rattle.passes.specs.Steps.{AllWritten}
+use Rattle.passes.specs.declared.Pass.the-variants.{Both}
+use Rattle.passes.specs.declared.Rewrite.the-variants.{Written, Refused}
+use Rattle.passes.specs.declared.Total.{Total}
+use Rattle.passes.proofs.Done.{check-good, bytes-length, bytes-shorter}
+use Rattle.rest.specs.Rounds.{restBytes, restCount, restAnswer, restOutput}
+use Rattle.rest.specs.Contracts.{RestDone}
+use Rattle.rest.proofs.Rounds.{rounds-pass, rest-bytes, rest-count}
+use Rattle.rest.proofs.Done.{rest-done}
+
+-- a round counts no more than there are bytes
+code-few : (fs : List Function) → sumOf (λ (g : Function). length (g .code)) fs ≤ length (cellsOfAll fs)
+code-few [] = omega arith
+code-few (g ∷ fs) = omega (arith, length-append (cellsOf g) (cellsOfAll fs), length-append (g .code) (g .events), code-few fs)
+
+pass-few : (k : RuleSet) (s : List ℕ) → passCount (Both k) s ≤ length s
+unfolding passCount
+pass-few k s =
+    let fs : List Function = functions (cells s) in
+    let n : length (cellsOfAll fs) ≡ length s / 16 = ap length (cells-of-functions (cells s)) ∙ length-cells s in
+    omega (arith, count-few (rulesOf k) fs, code-few fs, n)
+
+-- the memory is that of one image
+one-image : (work : List ℕ) → work ≡ replicate maxImage 0 → length work ≡ maxImage
+one-image work l = ap length l ∙ length-replicate {A = ℕ} maxImage 0
+
+module _ (k : RuleSet) (s before : List ℕ) {a : Checked} (e : a ≡ passCheck s (length before)) where
+  -- a refusal is handed on, and nothing is written
+  pub rest-refused : {x : Refusal} → a ≡ RefusedBy x → RestDone k s before before (Refused x)
+  unfolding restAnswer restOutput
+  rest-refused {x} f =
+      let g : passCheck s (length before) ≡ RefusedBy x = sym e ∙ f in
+      rest-done k s before before (Refused x)
+      (sym (ap (λ (c : Checked). answerAs c (length (restBytes k s)) (restCount k s)) g))
+      (sym (ap (λ (c : Checked). outputAs c (restBytes k s) before) g))
+
+  module _ (f : a ≡ Good) where
+    passes : SitesPass s
+    passes = check-good s (length before) .0 (sym e ∙ f) .0
+
+    enough : length s ≤ length before
+    enough = check-good s (length before) .0 (sym e ∙ f) .1
+
+    -- the first round has room in memory for one image
+    pub first-ready : (work : List ℕ) → work ≡ replicate maxImage 0 → (siteAnswer s ≡ Good) × (length s ≤ length work)
+    first-ready work l = (site-good s .1 passes, omega (arith, one-image work l, passes .image .short))
+
+    module _ (work work′ : List ℕ) (l : work ≡ replicate maxImage 0) (t : Total)
+        (w : AllWritten (passAll (Both k) (functions (cells s))) (countAll (Both k) (functions (cells s))) work work′ t) where
+      s₁ : List ℕ
+      s₁ = passBytes (Both k) s
+
+      first-size : 16 * t .cells ≡ length s₁
+      unfolding s₁
+      first-size = omega (arith, w .count, bytes-length (Both k) s passes)
+
+      first-short : length s₁ ≤ length s
+      unfolding s₁
+      first-short = bytes-shorter (Both k) s passes
+
+      -- what it wrote
+      pub first-room : 16 * t .cells ≤ length work′
+      unfolding s₁ passBytes
+      first-room =
+          let n : length work ≡ maxImage = one-image work l in
+          omega (arith, first-size, first-short, passes .image .short, n, ap length (w .bytes) ∙ length-over s₁ work (omega (arith, first-short, passes .image .short, n)))
+
+      pub first-most : 16 * t .cells ≤ maxImage
+      first-most = omega (arith, first-size, first-short, passes .image .short)
+
+      first-bytes : take (16 * t .cells) work′ ≡ s₁
+      unfolding s₁ passBytes
+      first-bytes = ap₂ (λ (n : ℕ) (u : List ℕ). take n u) first-size (w .bytes) ∙ over-take s₁ work
+
+      first-count : t .rewrites ≡ passCount (Both k) s
+      unfolding passCount
+      first-count = w .rewrites
+
+      first-passes : SitesPass s₁
+      unfolding s₁
+      first-passes = rounds-pass k s passes 1
+
+      -- the second round can be made of it, straight into the output
+      pub second-ready : (siteAnswer (take (16 * t .cells) work′) ≡ Good) × (length (take (16 * t .cells) work′) ≤ length before)
+      second-ready = rw first-bytes (site-good s₁ .1 first-passes, omega (arith, first-short, enough))
+
+      module _ (after : List ℕ) (u : Total)
+          (v : AllWritten (passAll (Both k) (functions (cells (take (16 * t .cells) work′)))) (countAll (Both k) (functions (cells (take (16 * t .cells) work′)))) before after u) where
+        second-is : AllWritten (passAll (Both k) (functions (cells s₁))) (countAll (Both k) (functions (cells s₁))) before after u
+        second-is = rw first-bytes at v
+
+        second-size : 16 * u .cells ≡ length (passBytes (Both k) s₁)
+        second-size = omega (arith, second-is .count, bytes-length (Both k) s₁ first-passes)
+
+        second-count : u .rewrites ≡ passCount (Both k) s₁
+        unfolding passCount
+        second-count = second-is .rewrites
+
+        pub second-most : 16 * u .cells ≤ maxImage
+        second-most = omega (arith, second-size, bytes-shorter (Both k) s₁ first-passes, first-short, passes .image .short)
+
+        pub counts-most : t .rewrites + u .rewrites ≤ 2 * maxImage
+        counts-most = omega (arith, first-count, second-count, pass-few k s, pass-few k s₁, first-short, passes .image .short)
+
+        pub rest-written : RestDone k s before after (Written (16 * u .cells) (report (t .rewrites + u .rewrites)))
+        unfolding restAnswer restOutput s₁ passBytes
+        rest-written =
+            let g : passCheck s (length before) ≡ Good = sym e ∙ f in
+            let b : restBytes k s ≡ passBytes (Both k) s₁ = rest-bytes k s passes in
+            let c : restCount k s ≡ t .rewrites + u .rewrites = omega (arith, rest-count k s passes, first-count, second-count) in
+            rest-done k s before after (Written (16 * u .cells) (report (t .rewrites + u .rewrites)))
+            (ap₂ (λ (n m : ℕ). Written n (report m)) (second-size ∙ ap length (sym b)) (sym c) ∙ sym (ap (λ (x : Checked). answerAs x (length (restBytes k s)) (restCount k s)) g))
+            (second-is .bytes ∙ ap (λ (y : List ℕ). over y before) (sym b) ∙ sym (ap (λ (x : Checked). outputAs x (restBytes k s) before) g))

@@ -1,0 +1,5 @@
+pub mod Settle
+pub mod Still
+pub mod Rounds
+pub mod Done
+pub mod Answered
