@@ -2,14 +2,12 @@
 use mathlib.Core.Path.{_≡_, refl, sym, _∙_, ap, ap₂}
 use mathlib.Core.Logic.{_↔_}
 use mathlib.Core.Bool.{true, true≢false}
-use mathlib.Core.List.{List, [], _∷_, map}
-use Prim.Native.Nat.{ℕ, suc, _≤_}
+use mathlib.Core.List.{List, [], _∷_}
+use Prim.Native.Nat.{ℕ, _≤_}
 use native.Mathlib.Omega.{arith}
 use lib.ListN.{length, take}
 use Rattle.cells.specs.Cells.{cells, over}
 use Rattle.cells.specs.Functions.{Function, functions}
-use Rattle.cells.specs.Lists.{All}
-use Rattle.cells.specs.View.{view}
 use Rattle.cells.specs.declared.refusal.Refusal.{Refusal}
 use Rattle.cells.specs.declared.refusal.Checked.{Checked}
 use Rattle.cells.specs.declared.refusal.Checked.the-variants.{Good, Refused as RefusedBy}
@@ -20,7 +18,6 @@ use Rattle.cleanup.specs.Premise.{OnePlace}
 use Rattle.crystalfold.specs.Rules.{rulesOf}
 use Rattle.crystalfold.specs.declared.rules.RuleSet.{RuleSet}
 use Rattle.rewrite.specs.Claim.{program}
-use Rattle.rewrite.specs.Preserved.{Preserved}
 use Rattle.rewrite.specs.Rewrite.{rewriteFunction}
 use Rattle.rewrite.proofs.KeepsPlaces.{rewrite-one-place}
 use Rattle.rewrite.proofs.Records.{set-claim}
@@ -32,8 +29,8 @@ use Rattle.passes.specs.declared.Pass.the-variants.{Both}
 use Rattle.passes.specs.declared.Rewrite.{Rewrite}
 use Rattle.passes.specs.declared.Rewrite.the-variants.{Written, Refused}
 use Rattle.passes.proofs.Done.{check-good, bytes-shorter}
-use Rattle.rest.specs.Rounds.{imageAfter, roundsToRest, restBytes, restCount, restAnswer, restOutput}
-use Rattle.rest.specs.Contracts.{WithinThree, AtRest, Rested, RestDone, EitherRests}
+use Rattle.rest.specs.Rounds.{imageAfter, restBytes, restCount, restAnswer, restOutput}
+use Rattle.rest.specs.Contracts.{RoundDone, AtRest, Rested, RestDone, EitherRests}
 use Rattle.rest.proofs.Still.{all}
 use Rattle.rest.proofs.Rounds.{rounds-pass, rounds-preserved, twice-functions, third-zero, third-same, within-three, rest-bytes}
 
@@ -58,16 +55,20 @@ module _ (k : RuleSet) where
   each-rested [] = tt
   each-rested (g ∷ fs) = (record { returned = refl; records = twice-records g }, each-rested fs)
 
-  -- ---- a further rewrite of what two rounds hand back
+  -- ---- a round, and a further rewrite of what two rounds hand back
 
-  at-rest : (s lent : List ℕ) → SitesPass s → length (passBytes (Both k) (passBytes (Both k) s)) ≤ length lent → AtRest k (passBytes (Both k) (passBytes (Both k) s)) lent
+  round-done : (s : List ℕ) (n : ℕ) (lent : List ℕ) → SitesPass s → length (imageAfter k n s) ≤ length lent → RoundDone k s n lent
   unfolding passAnswer passOutput
+  round-done s n lent g l =
+      let c : passCheck (imageAfter k n s) (length lent) ≡ Good = check-good (imageAfter k n s) (length lent) .1 (rounds-pass k s g n, l) in
+      record { answer = rw c; bytes = rw c }
+
+  at-rest : (s lent : List ℕ) → SitesPass s → length (imageAfter k 2 s) ≤ length lent → AtRest k (imageAfter k 2 s) lent
   at-rest s lent g l =
-      let y : List ℕ = passBytes (Both k) (passBytes (Both k) s) in
-      let c : passCheck y (length lent) ≡ Good = check-good y (length lent) .1 (rounds-pass k s g 2, l) in
+      let d : RoundDone k s 2 lent = round-done s 2 lent g l in
       record {
-        answer = rw c (ap₂ (λ (n m : ℕ). Written n (report m)) (ap length (third-same k s g)) (third-zero k s g));
-        bytes = rw c (ap (λ (z : List ℕ). over z lent) (third-same k s g));
+        answer = d .answer ∙ ap₂ (λ (n m : ℕ). Written n (report m)) (ap length (third-same k s g)) (third-zero k s g);
+        bytes = d .bytes ∙ ap (λ (z : List ℕ). over z lent) (third-same k s g);
       }
 
   -- ---- the promises
@@ -119,7 +120,9 @@ rest-done k s before after r e f =
       bytes = f;
       accepted = v .accepted;
       refused = v .refused;
+      each-round = λ w n lent. round-done k s n lent (pass w);
       rounds = λ w. within-three k s (pass w);
+      twice = v .written;
       shorter = v .shorter;
       again = λ w. rw (v .written w) (rounds-pass k s (pass w) 2);
       rests = λ w lent l. rw (v .written w) (at-rest k s lent (pass w) (omega (arith, v .size w, l)));

@@ -1,27 +1,24 @@
 -- Rounds on the bytes of an image that passes the site check: where they end, and what they come to.
-use mathlib.Core.Path.{_≡_, refl, sym, _∙_, ap, ap₂}
-use mathlib.Core.Bool.{Bool, true, false, cond}
-use mathlib.Core.List.{List, map}
-use mathlib.Core.Logic.{_⊎_, inl, inr}
+use mathlib.Core.Path.{_≡_, refl, sym, _∙_, ap}
+use mathlib.Core.Bool.{true, false}
+use mathlib.Core.List.{List}
 use Prim.Native.Nat.{ℕ, zero, suc, _+_, _≤_, _<_}
 use native.Mathlib.Omega.{arith}
 use lib.Dec.{eqb}
-use lib.ListN.{length}
 use Rattle.cells.specs.Cells.{cells, flat}
 use Rattle.cells.specs.Functions.{Function, functions, cellsOfAll}
 use Rattle.cells.specs.Lists.{All}
 use Rattle.cells.proofs.Facts.{by-test, eqb-true, eqb-false}
-use Rattle.crystalfold.specs.Rules.{Rules, rulesOf}
+use Rattle.crystalfold.specs.Rules.{rulesOf}
 use Rattle.crystalfold.specs.declared.rules.RuleSet.{RuleSet}
 use Rattle.rewrite.specs.Preserved.{Preserved}
-use Rattle.rewrite.specs.Rewrite.{rewriteFunction}
 use Rattle.rewrite.proofs.EachFunction.{all-each, count-each}
 use Rattle.image.specs.SiteCheck.{SitesPass}
 use Rattle.image.proofs.Again.{image-formed}
-use Rattle.passes.specs.Passes.{passAll, passBytes, passCount}
+use Rattle.passes.specs.Passes.{passBytes, passCount}
 use Rattle.passes.specs.declared.Pass.the-variants.{Both}
-use Rattle.passes.proofs.Done.{bytes-shorter, bytes-again, bytes-functions, each-preserved}
-use Rattle.rest.specs.Rounds.{imageAfter, reported, sumAfter, roundsBehind, roundsToRest, restBytes, restCount}
+use Rattle.passes.proofs.Done.{bytes-again, bytes-functions, each-preserved}
+use Rattle.rest.specs.Rounds.{imageAfter, reported, sumAfter, roundsToRest, restBytes, restCount}
 use Rattle.rest.specs.Contracts.{UntilZero, WithinThree}
 use Rattle.rest.proofs.Still.{all, counts, zero-again, all-again, all-third}
 
@@ -36,11 +33,11 @@ module _ (k : RuleSet) where
   functionsOf s = functions (cells s)
 
   -- an image is written from its functions, and counted by them
-  count-is : (s : List ℕ) → count s ≡ counts (rulesOf k) (functionsOf s)
+  pub count-is : (s : List ℕ) → count s ≡ counts (rulesOf k) (functionsOf s)
   unfolding passCount
   count-is s = count-each (rulesOf k) (functionsOf s)
 
-  once-is : (s : List ℕ) → once s ≡ flat (cellsOfAll (all (rulesOf k) (functionsOf s)))
+  pub once-is : (s : List ℕ) → once s ≡ flat (cellsOfAll (all (rulesOf k) (functionsOf s)))
   unfolding passBytes
   once-is s = ap (λ (fs : List Function). flat (cellsOfAll fs)) (all-each (rulesOf k) (functionsOf s))
 

@@ -1,10 +1,10 @@
 -- One function, and all of them, by any rules: where a rewrite counts 0 it has left every cell and every event, so that the next hands back the
 -- same function, head and all; and the third counts 0.
-use mathlib.Core.Path.{_≡_, refl, sym, _∙_, ap, ap₂}
-use mathlib.Core.Bool.{Bool, true, false, _||_, not}
+use mathlib.Core.Path.{_≡_, refl, _∙_, ap, ap₂}
+use mathlib.Core.Bool.{Bool, false}
 use mathlib.Core.Option.{none}
 use mathlib.Core.List.{List, [], _∷_, map}
-use Prim.Native.Nat.{ℕ, _+_, _≤_}
+use Prim.Native.Nat.{ℕ}
 use native.Mathlib.Omega.{arith}
 use lib.ListN.{length}
 use Rattle.cells.specs.Cells.{Cell}
@@ -21,10 +21,10 @@ use Rattle.sites.specs.declared.Which.{Which}
 use Rattle.sites.specs.declared.Which.the-variants.{Activation, Write}
 use Rattle.cleanup.specs.Marks.{terminal, jumpOf, removableLoad}
 use Rattle.cleanup.specs.Sweeps.{cutOff, removed, removeDuplicateConsecutiveLabels, removeUnreachableUntilLabel, removeNoopJumps}
-use Rattle.cleanup.specs.Cleanup.{onGone, stays, cleanCode, cleanEvents, cleanCount, cleanFunction}
+use Rattle.cleanup.specs.Cleanup.{onGone, stays, cleanCode, cleanEvents, cleanFunction}
 use Rattle.cleanup.proofs.CleanupCounts.{clean-count}
 use Rattle.cleanup.proofs.EachLeft.{sub-code}
-use Rattle.cleanup.proofs.Sweeping.{both-lengths, sub-dedupe, sub-reach, sub-sweep}
+use Rattle.cleanup.proofs.Sweeping.{both-lengths, sub-dedupe, sub-sweep}
 use Rattle.crystalfold.specs.Rules.{Rules}
 use Rattle.crystalfold.specs.CrystalFold.{foldCode, foldsOf, foldFunction}
 use Rattle.crystalfold.proofs.FoldCounts.{length-folded}
@@ -95,13 +95,13 @@ module _ (f : Rules) where
       let a : foldsOf f (cleanCode q) ≡ 0 = ap (foldsOf f) c ∙ third-folds view f loadCell view-load cs in
       omega (arith, a, ap length c, clean-count q)
 
-  events-still : (cs es : List Cell) → cleanCode cs ≡ cs → cleanEvents cs es ≡ es
+  pub events-still : (cs es : List Cell) → cleanCode cs ≡ cs → cleanEvents cs es ≡ es
   unfolding cleanEvents
   events-still cs es e = ap (λ (gone : List Cell). only (stays gone) es) (none-removed cs (ap length e)) ∙ stays-all es
 
   -- ---- the function
 
-  same-function : (h i : Cell) (c d e g : List Cell) → h ≡ i → c ≡ d → e ≡ g → _≡_ {A = Function} (record { head = h; code = c; events = e }) (record { head = i; code = d; events = g })
+  pub same-function : (h i : Cell) (c d e g : List Cell) → h ≡ i → c ≡ d → e ≡ g → _≡_ {A = Function} (record { head = h; code = c; events = e }) (record { head = i; code = d; events = g })
   same-function h i c d e g p q r = rw (p, q, r)
 
   pub function-again : (g : Function) → rewriteCount f (rewriteFunction f g .code) ≡ 0 → rewriteFunction f (rewriteFunction f g) ≡ rewriteFunction f g

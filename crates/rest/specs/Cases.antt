@@ -8,7 +8,7 @@ use lib.ListN.{length, replicate}
 use Rattle.leaves.specs.Signed.{wrap, addI32}
 use Rattle.leaves.specs.Unsigned.{addU32}
 use Rattle.leaves.specs.Quads.{meet, quadOf}
-use Rattle.cells.specs.Assembler.{cell, Head, Label, Jmp, LoadI32, LoadBool, LoadU32, LoadQ, binary, AddI32, QTruthNot, Ret, RetNothing, site, noSite, StoreVarSited, MakeRecord, Borrow, Write, function}
+use Rattle.cells.specs.Assembler.{cell, Head, Label, Jmp, LoadI32, LoadBool, LoadU32, LoadQ, binary, AddI32, QTruthNot, Ret, RetNothing, site, noSite, StoreVarSited, MakeRecord, Borrow, function}
 use Rattle.cells.specs.Cells.{over}
 use Rattle.cells.specs.Check.{instructionCheck, eventCheck, headCheck}
 use Rattle.cells.specs.Functions.{functions}

@@ -25,6 +25,11 @@ use Rattle.passes.specs.declared.Rewrite.{Rewrite}
 use Rattle.passes.specs.declared.Rewrite.the-variants.{Written, Refused}
 use Rattle.rest.specs.Rounds.{imageAfter, reported, roundsToRest, restAnswer, restOutput}
 
+-- a round is the rewrite itself: of what n rounds handed back, lent an output as long as that or longer, it is accepted, reports this and writes this
+pub record RoundDone (k : RuleSet) (s : List ℕ) (n : ℕ) (lent : List ℕ) : Type 0 where
+  pub answer : passAnswer (Both k) (imageAfter k n s) (length lent) ≡ Written (length (imageAfter k (suc n) s)) (report (reported k n s))
+  pub bytes : passOutput (Both k) (imageAfter k n s) lent ≡ over (imageAfter k (suc n) s) lent
+
 -- n rounds are those "until one reports 0": the last reports 0, and none before it does
 pub record UntilZero (k : RuleSet) (s : List ℕ) (n : ℕ) : Type 0 where
   pub last : (m : ℕ) × (n ≡ suc m) × (reported k m s ≡ 0)
@@ -58,9 +63,11 @@ pub record RestDone (k : RuleSet) (s before after : List ℕ) (r : Rewrite) : Ty
   pub accepted : (isWritten r ≡ true) ↔ (SitesPass s × (length s ≤ length before))
   -- a refusal is the rewrite's, and the rewrite's refusal is one
   pub refused : (x : Refusal) → (r ≡ Refused x) ↔ (passAnswer (Both k) s (length before) ≡ Refused x)
-  -- the rounds that the answer and the bytes are defined by
+  -- the rounds that the answer and the bytes are defined by, each of them and how many there are
+  pub each-round : isWritten r ≡ true → (n : ℕ) (lent : List ℕ) → length (imageAfter k n s) ≤ length lent → RoundDone k s n lent
   pub rounds : isWritten r ≡ true → WithinThree k s (roundsToRest k s)
-  -- what was written is no longer than the image, and passes both checks again
+  -- what was written is what two rounds hand back, however many there were; it is no longer than the image, and passes both checks again
+  pub twice : isWritten r ≡ true → take (lengthWritten r) after ≡ imageAfter k 2 s
   pub shorter : lengthWritten r ≤ length s
   pub again : isWritten r ≡ true → SitesPass (take (lengthWritten r) after)
   -- and rests, whatever is lent as the output of a further rewrite
@@ -73,3 +80,8 @@ pub record RestDone (k : RuleSet) (s before after : List ℕ) (r : Rewrite) : Ty
 -- the theorem `either-rests` of proofs/Done: what is defined promises this by either rule set; the operation is the default one's
 abbrev pub EitherRests : Type 0
 EitherRests = (k : RuleSet) (s before : List ℕ) → RestDone k s before (restOutput k s before) (restAnswer k s (length before))
+
+-- the theorem `zero-at-rest` of proofs/AsSent: an image of which the rewrite reports 0 rests as it was sent, byte for byte. The definitions read any
+-- numbers, an image has bytes
+abbrev pub ZeroAtRest : Type 0
+ZeroAtRest = (k : RuleSet) (s lent : List ℕ) → All (λ (b : ℕ). b < 256) s → SitesPass s → reported k 0 s ≡ 0 → length s ≤ length lent → AtRest k s lent
