@@ -46,6 +46,23 @@ pass-few k s =
 one-image : (work : List ℕ) → work ≡ replicate maxImage 0 → length work ≡ maxImage
 one-image work l = ap length l ∙ length-replicate {A = ℕ} maxImage 0
 
+-- a round wrote all functions of the image s over the start of an output
+abbrev Wrote : RuleSet → List ℕ → List ℕ → List ℕ → Total → Type 0
+Wrote k s before after t = AllWritten (passAll (Both k) (functions (cells s))) (countAll (Both k) (functions (cells s))) before after t
+
+-- after the second round, straight into the output: the sizes fit, and all is done
+pub record Second (k : RuleSet) (s before : List ℕ) (t : Total) (after : List ℕ) (u : Total) : Type 0 where
+  pub most : 16 * u .cells ≤ maxImage
+  pub counts : t .rewrites + u .rewrites ≤ 2 * maxImage
+  pub done : RestDone k s before after (Written (16 * u .cells) (report (t .rewrites + u .rewrites)))
+
+-- after the first, in memory: what it wrote stands there, and the second can be made of it
+pub record First (k : RuleSet) (s before work : List ℕ) (t : Total) : Type 0 where
+  pub most : 16 * t .cells ≤ maxImage
+  pub room : 16 * t .cells ≤ length work
+  pub ready : (siteAnswer (take (16 * t .cells) work) ≡ Good) × (length (take (16 * t .cells) work) ≤ length before)
+  pub second : (after : List ℕ) (u : Total) → Wrote k (take (16 * t .cells) work) before after u → Second k s before t after u
+
 module _ (k : RuleSet) (s before : List ℕ) {a : Checked} (e : a ≡ passCheck s (length before)) where
   -- a refusal is handed on, and nothing is written
   pub rest-refused : {x : Refusal} → a ≡ RefusedBy x → RestDone k s before before (Refused x)
@@ -67,8 +84,7 @@ module _ (k : RuleSet) (s before : List ℕ) {a : Checked} (e : a ≡ passCheck 
     pub first-ready : (work : List ℕ) → work ≡ replicate maxImage 0 → (siteAnswer s ≡ Good) × (length s ≤ length work)
     first-ready work l = (site-good s .1 passes, omega (arith, one-image work l, passes .image .short))
 
-    module _ (work work′ : List ℕ) (l : work ≡ replicate maxImage 0) (t : Total)
-        (w : AllWritten (passAll (Both k) (functions (cells s))) (countAll (Both k) (functions (cells s))) work work′ t) where
+    module _ (work work′ : List ℕ) (l : work ≡ replicate maxImage 0) (t : Total) (w : Wrote k s work work′ t) where
       s₁ : List ℕ
       s₁ = passBytes (Both k) s
 
@@ -80,15 +96,11 @@ module _ (k : RuleSet) (s before : List ℕ) {a : Checked} (e : a ≡ passCheck 
       unfolding s₁
       first-short = bytes-shorter (Both k) s passes
 
-      -- what it wrote
-      pub first-room : 16 * t .cells ≤ length work′
+      first-room : 16 * t .cells ≤ length work′
       unfolding s₁ passBytes
       first-room =
           let n : length work ≡ maxImage = one-image work l in
           omega (arith, first-size, first-short, passes .image .short, n, ap length (w .bytes) ∙ length-over s₁ work (omega (arith, first-short, passes .image .short, n)))
-
-      pub first-most : 16 * t .cells ≤ maxImage
-      first-most = omega (arith, first-size, first-short, passes .image .short)
 
       first-bytes : take (16 * t .cells) work′ ≡ s₁
       unfolding s₁ passBytes
@@ -102,13 +114,8 @@ module _ (k : RuleSet) (s before : List ℕ) {a : Checked} (e : a ≡ passCheck 
       unfolding s₁
       first-passes = rounds-pass k s passes 1
 
-      -- the second round can be made of it, straight into the output
-      pub second-ready : (siteAnswer (take (16 * t .cells) work′) ≡ Good) × (length (take (16 * t .cells) work′) ≤ length before)
-      second-ready = rw first-bytes (site-good s₁ .1 first-passes, omega (arith, first-short, enough))
-
-      module _ (after : List ℕ) (u : Total)
-          (v : AllWritten (passAll (Both k) (functions (cells (take (16 * t .cells) work′)))) (countAll (Both k) (functions (cells (take (16 * t .cells) work′)))) before after u) where
-        second-is : AllWritten (passAll (Both k) (functions (cells s₁))) (countAll (Both k) (functions (cells s₁))) before after u
+      module _ (after : List ℕ) (u : Total) (v : Wrote k (take (16 * t .cells) work′) before after u) where
+        second-is : Wrote k s₁ before after u
         second-is = rw first-bytes at v
 
         second-size : 16 * u .cells ≡ length (passBytes (Both k) s₁)
@@ -118,13 +125,7 @@ module _ (k : RuleSet) (s before : List ℕ) {a : Checked} (e : a ≡ passCheck 
         unfolding passCount
         second-count = second-is .rewrites
 
-        pub second-most : 16 * u .cells ≤ maxImage
-        second-most = omega (arith, second-size, bytes-shorter (Both k) s₁ first-passes, first-short, passes .image .short)
-
-        pub counts-most : t .rewrites + u .rewrites ≤ 2 * maxImage
-        counts-most = omega (arith, first-count, second-count, pass-few k s, pass-few k s₁, first-short, passes .image .short)
-
-        pub rest-written : RestDone k s before after (Written (16 * u .cells) (report (t .rewrites + u .rewrites)))
+        rest-written : RestDone k s before after (Written (16 * u .cells) (report (t .rewrites + u .rewrites)))
         unfolding restAnswer restOutput s₁ passBytes
         rest-written =
             let g : passCheck s (length before) ≡ Good = sym e ∙ f in
@@ -133,3 +134,18 @@ module _ (k : RuleSet) (s before : List ℕ) {a : Checked} (e : a ≡ passCheck 
             rest-done k s before after (Written (16 * u .cells) (report (t .rewrites + u .rewrites)))
             (ap₂ (λ (n m : ℕ). Written n (report m)) (second-size ∙ ap length (sym b)) (sym c) ∙ sym (ap (λ (x : Checked). answerAs x (length (restBytes k s)) (restCount k s)) g))
             (second-is .bytes ∙ ap (λ (y : List ℕ). over y before) (sym b) ∙ sym (ap (λ (x : Checked). outputAs x (restBytes k s) before) g))
+
+        second-round : Second k s before t after u
+        second-round = record {
+          most = omega (arith, second-size, bytes-shorter (Both k) s₁ first-passes, first-short, passes .image .short);
+          counts = omega (arith, first-count, second-count, pass-few k s, pass-few k s₁, first-short, passes .image .short);
+          done = rest-written;
+        }
+
+      pub first-round : First k s before work′ t
+      first-round = record {
+        most = omega (arith, first-size, first-short, passes .image .short);
+        room = first-room;
+        ready = rw first-bytes (site-good s₁ .1 first-passes, omega (arith, first-short, enough));
+        second = second-round;
+      }

@@ -51,8 +51,8 @@ module _ (f : Rules) where
   unfolding rewriteFunction foldFunction cleanFunction rewriteCode
   function-same g w b e =
       let s : Still f (g .code) = code-still f (g .code) e in
-      let v = events-still f (g .code) (g .events) (s .cleaned) in
-      same-function f _ _ _ _ _ _
+      let v = events-still (g .code) (g .events) (s .cleaned) in
+      same-function _ _ _ _ _ _
       (ap₂ (λ (i j : ℕ). newHead (g .head) i j) (ap length (s .cleaned) ∙ w .counted .0) (ap length v ∙ w .counted .1)
       ∙ new-head-same (g .head) (omega (arith, w .full .0)) b)
       (s .rewritten)

@@ -71,6 +71,14 @@ none-removed cs e =
     nothing-in (removed view cs)
     (omega (arith, e, b, sub-length (sub-dedupe view none cs), sub-length (sub-sweep view jumpOf labelOf p₂), sub-length (sub-sweep view removableLoad removableLoad p₃)))
 
+pub events-still : (cs es : List Cell) → cleanCode cs ≡ cs → cleanEvents cs es ≡ es
+unfolding cleanEvents
+events-still cs es e = ap (λ (gone : List Cell). only (stays gone) es) (none-removed cs (ap length e)) ∙ stays-all es
+
+-- a function by its parts
+pub same-function : (h i : Cell) (c d e g : List Cell) → h ≡ i → c ≡ d → e ≡ g → _≡_ {A = Function} (record { head = h; code = c; events = e }) (record { head = i; code = d; events = g })
+same-function h i c d e g p q r = rw (p, q, r)
+
 module _ (f : Rules) where
   -- ---- the cells
 
@@ -95,14 +103,7 @@ module _ (f : Rules) where
       let a : foldsOf f (cleanCode q) ≡ 0 = ap (foldsOf f) c ∙ third-folds view f loadCell view-load cs in
       omega (arith, a, ap length c, clean-count q)
 
-  pub events-still : (cs es : List Cell) → cleanCode cs ≡ cs → cleanEvents cs es ≡ es
-  unfolding cleanEvents
-  events-still cs es e = ap (λ (gone : List Cell). only (stays gone) es) (none-removed cs (ap length e)) ∙ stays-all es
-
   -- ---- the function
-
-  pub same-function : (h i : Cell) (c d e g : List Cell) → h ≡ i → c ≡ d → e ≡ g → _≡_ {A = Function} (record { head = h; code = c; events = e }) (record { head = i; code = d; events = g })
-  same-function h i c d e g p q r = rw (p, q, r)
 
   pub function-again : (g : Function) → rewriteCount f (rewriteFunction f g .code) ≡ 0 → rewriteFunction f (rewriteFunction f g) ≡ rewriteFunction f g
   unfolding rewriteFunction foldFunction cleanFunction rewriteCode

@@ -30,7 +30,7 @@ abbrev pub roundsBehind : RuleSet → ℕ → ℕ → List ℕ → ℕ
 roundsBehind k n zero s = n
 roundsBehind k n (suc m) s = cond (eqb (reported k n s) 0) (suc n) (roundsBehind k (suc n) m s)
 
--- three are always enough: the last of them reports 0 (`UntilZero`, Contracts.antt)
+-- three are always enough: where no earlier one does, the third reports 0 (`WithinThree`, Contracts.antt)
 abbrev pub roundsToRest : RuleSet → List ℕ → ℕ
 roundsToRest k s = roundsBehind k 0 3 s
 

@@ -15,6 +15,7 @@ pub fn rows() -> Vec<(&'static str, Vec<u8>)> {
         ("loads, 1,024 registers", instrs(|at| leaves::load(at % 1024, value(at)))),
         ("overwritten loads", instrs(|at| load_i32(1, at as i32))),
         ("folds", instrs(folds)),
+        ("folds into a register", instrs(into_one)),
         ("truth-order quads", instrs(truth_order)),
         ("f64 by zero", instrs(by_zero)),
         ("unknown operands", instrs(|at| computed(COMPUTED[at % 8], (at % 256) as u16, 7, 200))),
@@ -69,6 +70,14 @@ fn value(at: usize) -> Const {
         3 => Const::F64((at as f64).to_bits()),
         4 => Const::Bool(at % 4 == 0),
         _ => Const::Quad((at % 4) as u8),
+    }
+}
+
+/// A load, then folds into its register, whose loads a further rewrite takes.
+fn into_one(at: usize) -> Cell {
+    match at {
+        0 => load_i32(1, 5),
+        _ => computed(byte::AddI32, 1, 1, 1),
     }
 }
 

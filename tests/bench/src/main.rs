@@ -80,7 +80,7 @@ fn all(time: Duration) -> bool {
 
     let ours = if cfg!(feature = "library") { "ours" } else { "(no library)" };
     println!(
-        "{:24} {:>6} {:>9} {:>12} {:>12} {:>12} {:>9} {:>10} {:>12} {:>12}",
+        "{:24} {:>6} {:>9} {:>12} {:>12} {:>12} {:>9} {:>10} {:>12} {:>12} {:>12}",
         "image",
         "cells",
         "rewrites",
@@ -90,12 +90,13 @@ fn all(time: Duration) -> bool {
         "ratio",
         "with codec",
         "fuller",
+        "rest",
         "pages"
     );
     for (name, image) in images::rows() {
         row(time, name, &image);
     }
-    println!("ratio: our time divided by the original's, without and with decoding and encoding; `fuller` is the time of the fuller rewrite, `pages` that of the pages");
+    println!("ratio: our time divided by the original's, without and with decoding and encoding; `fuller` is the time of the fuller rewrite, `rest` that of the rewrite until it rests, `pages` that of the pages");
     #[cfg(feature = "library")]
     let hold = packed::rows(time);
     #[cfg(not(feature = "library"))]
@@ -133,18 +134,20 @@ fn row(time: Duration, name: &str, image: &[u8]) {
     );
     let ours = measure_ours(time, Operation::Rewrite, image);
     let fuller = measure_ours(time, Operation::Fuller, image);
+    let rest = measure_ours(time, Operation::Rest, image);
     let pages = measure_pages(time, image);
 
     let cells = image.len() / CELL;
     let text = |number: Option<f64>| number.map_or("-".into(), |number| format!("{number:.2}"));
     let time = |time: Option<u128>| time.map_or("-".into(), |time| time.to_string());
     println!(
-        "{name:24} {cells:>6} {:>9} {passes:>12} {with_codec:>12} {:>12} {:>9} {:>10} {:>12} {:>12}",
+        "{name:24} {cells:>6} {:>9} {passes:>12} {with_codec:>12} {:>12} {:>9} {:>10} {:>12} {:>12} {:>12}",
         report.num_rewrites,
         time(ours),
         text(ours.map(|ours| ours as f64 / passes as f64)),
         text(ours.map(|ours| ours as f64 / with_codec as f64)),
         time(fuller),
+        time(rest),
         time(pages),
     );
 }

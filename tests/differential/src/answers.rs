@@ -78,6 +78,8 @@ pub enum Operation {
     CrystalFold,
     /// Document 02's fuller rewrite, which the Rust doesn't have.
     Fuller,
+    /// Document 02's rewrite until it rests: the default one, again and again.
+    Rest,
 }
 
 /// Those that the Rust has.
@@ -85,9 +87,9 @@ pub const ORIGINALS: [Operation; 3] =
     [Operation::Rewrite, Operation::Cleanup, Operation::CrystalFold];
 
 /// All of them, those first.
-pub const OPERATIONS: [Operation; 4] = {
+pub const OPERATIONS: [Operation; 5] = {
     let [rewrite, cleanup, crystalfold] = ORIGINALS;
-    [rewrite, cleanup, crystalfold, Operation::Fuller]
+    [rewrite, cleanup, crystalfold, Operation::Fuller, Operation::Rest]
 };
 
 /// Someone who answers: the model, the proved library, or a wrong program.
@@ -99,6 +101,7 @@ pub trait Operations: Sync {
     fn crystalfold(&self, image: &[u8], out: &mut [u8]) -> Rewritten;
     fn rewrite(&self, image: &[u8], out: &mut [u8]) -> Rewritten;
     fn fuller(&self, image: &[u8], out: &mut [u8]) -> Rewritten;
+    fn rest(&self, image: &[u8], out: &mut [u8]) -> Rewritten;
     /// Document 02's pages, which the Rust doesn't have.
     fn pages(&self, image: &[u8], out: &mut [u8]) -> Reply;
     /// Document 02's packed form of an image, and the image of a packed form.
@@ -113,6 +116,7 @@ pub trait Operations: Sync {
             Operation::Cleanup => self.cleanup(image, out),
             Operation::CrystalFold => self.crystalfold(image, out),
             Operation::Fuller => self.fuller(image, out),
+            Operation::Rest => self.rest(image, out),
         }
     }
 }

@@ -12,6 +12,7 @@ use crate::model;
 use crate::original::{self, Answers};
 use crate::packed;
 use crate::pages;
+use crate::rest::Rested;
 use crate::table;
 use std::collections::HashMap;
 
@@ -100,6 +101,9 @@ pub fn expected(image: &[u8]) -> Result<Expected, Difference> {
     if let Some((bytes, success)) = &expected.fuller {
         expected.check_by_the_original(image, image, &Ok(*success), bytes)?;
     }
+    if let Some(rested) = expected.rested() {
+        rested.check("Rest of the model, by round", &model::rested(image))?;
+    }
     if let Some(pages) = &expected.pages {
         read_back(image, pages)?;
     }
@@ -124,17 +128,31 @@ impl Expected {
         self.original.as_ref()
     }
 
-    /// What the original writes, and the model for the fuller rewrite, where they accept.
+    /// What the original writes, until it rests in as many rounds as it takes, and the model for the
+    /// fuller rewrite, where they accept.
     pub fn written(&self, operation: Operation) -> Option<&[u8]> {
         let (bytes, _) = self.success(operation)?;
         Some(bytes)
     }
 
-    fn success(&self, operation: Operation) -> Option<&(Vec<u8>, Success)> {
-        match ORIGINALS.iter().position(|other| *other == operation) {
-            Some(index) => self.original.as_ref()?.written[index].as_ref().ok(),
-            None => self.fuller.as_ref(),
-        }
+    fn success(&self, operation: Operation) -> Option<(&[u8], Success)> {
+        let (bytes, success) = match operation {
+            Operation::Fuller => self.fuller.as_ref()?,
+            Operation::Rest => {
+                let Rested { bytes, success, .. } = self.rested()?;
+                return Some((bytes, *success));
+            }
+            _ => {
+                let index = ORIGINALS.iter().position(|other| *other == operation)?;
+                self.original.as_ref()?.written[index].as_ref().ok()?
+            }
+        };
+        Some((bytes, *success))
+    }
+
+    /// The original's rounds until it reports 0, where it accepts.
+    pub fn rested(&self) -> Option<&Rested> {
+        self.original.as_ref()?.rested.as_ref().ok()
     }
 
     /// The fuller rewrite writes other cells than the default one.
@@ -235,7 +253,7 @@ impl Expected {
         }
         // Where the site check accepts, so does the original.
         let (bytes, success) = self.success(operation).unwrap();
-        (Ok(*success), bytes)
+        (Ok(success), bytes)
     }
 
     /// The length of the pages, or for a refused image about what it would have been.

@@ -1,7 +1,7 @@
 //! Runs all groups of images on several threads and reports.
 
 use crate::answers::{Operation, Operations};
-use crate::cells;
+use crate::cells::{self, Cell};
 use crate::compare::{hexadecimal, Difference, GUARD};
 use crate::factors::{self, Leaf, LEAVES, TURNS};
 use crate::forms::{self, Forms};
@@ -10,6 +10,7 @@ use crate::joined::{self, Part};
 use crate::packed::{self, Unpacking, FAULTS};
 use crate::pages::{self, SHAPES};
 use crate::random::{mix, Random};
+use crate::rest::{self, ROUNDS};
 use crate::runs::{self, Outside};
 use crate::shrink::{shrink, shrink_by};
 use std::sync::atomic::{AtomicBool, Ordering};
@@ -26,6 +27,8 @@ pub struct Count {
     pub accepted: u64,
     /// The fuller rewrite writes other cells than the default one.
     pub differing: u64,
+    /// It takes a third round until it rests.
+    pub third: u64,
     /// An image counts once for each subject and each length of the lent output.
     pub comparisons: u64,
     /// An image counts once for each subject and each length of the buffer lent for its pages.
@@ -68,6 +71,34 @@ impl Packing {
             *sum += count;
         }
         self.forms += other.forms;
+    }
+}
+
+/// What occurred until accepted images rested.
+#[derive(Debug, Default)]
+pub struct Rests {
+    /// Images by the rounds that they took, the one that reports 0 counted.
+    pub rounds: [u64; ROUNDS + 1],
+    /// Round one wrote more than the last.
+    pub longer: u64,
+}
+
+impl Rests {
+    fn count(&mut self, part: &Part) {
+        let Part { expected, .. } = part;
+        let default = expected.written(Operation::Rewrite);
+        let (Some(rested), Some(default)) = (expected.rested(), default) else {
+            return;
+        };
+        self.rounds[rested.rounds()] += 1;
+        self.longer += (default.len() > rested.bytes.len()) as u64;
+    }
+
+    fn add(&mut self, other: &Rests) {
+        for (sum, count) in self.rounds.iter_mut().zip(other.rounds) {
+            *sum += count;
+        }
+        self.longer += other.longer;
     }
 }
 
@@ -127,7 +158,7 @@ impl Occurred {
 
 /// What was lent: an output, or a buffer for the pages, for the packed form or for what is unpacked;
 /// its length, less the image's or the joined one's, or less that of what is written; or a number for
-/// a factor. Or a law, with the place at which it ends a packed form.
+/// a factor. Or a law, with the place at which it ends a packed form; or one of what rests.
 #[derive(Debug, Clone, Copy, PartialEq, Eq)]
 pub enum Lent {
     Output(isize),
@@ -135,6 +166,7 @@ pub enum Lent {
     Packed(isize),
     Unpacked(isize),
     Law(usize),
+    RestLaw,
     Number,
 }
 
@@ -154,6 +186,7 @@ struct Worker<'a> {
     counts: Vec<Count>,
     /// How often each refusal number was the answer.
     refusals: [u64; 27],
+    rests: Rests,
     occurred: Occurred,
     packing: Packing,
     factors: Factors,
@@ -204,10 +237,16 @@ impl Worker<'_> {
                 comparisons += 1;
             }
         }
+        for subject in self.subjects.iter().filter(|_| expected.accepted()) {
+            if let Err(difference) = rest::laws(*subject, image) {
+                return self.found(group, subject.name(), &[image], Lent::RestLaw, difference);
+            }
+        }
         let buffers = two_buffers(&mut self.random, expected.pages_length(image));
         self.pages(group, part, images, &buffers);
         self.packed(group, part, images);
         self.occurred.count(part);
+        self.rests.count(part);
         if let Err(refusal) = expected.site_check() {
             self.refusals[refusal.number as usize] += 1;
         }
@@ -215,6 +254,7 @@ impl Worker<'_> {
         count.images += 1;
         count.accepted += expected.accepted() as u64;
         count.differing += expected.fuller_differs() as u64;
+        count.third += expected.rested().is_some_and(|rested| rested.rounds() == ROUNDS) as u64;
         count.comparisons += comparisons;
     }
 
@@ -330,7 +370,7 @@ impl Worker<'_> {
         self.stop.load(Ordering::Relaxed)
     }
 
-    /// Runs the functions of an image as sent and as returned by both rewrites.
+    /// Runs the functions of an image as sent and as returned by the three rewrites.
     fn run_functions(&mut self, part: &Part, tries: usize) {
         match records(part, &mut self.random, tries) {
             Ok((runs, entries)) => {
@@ -417,6 +457,8 @@ impl Worker<'_> {
             let image = generate::several(&mut self.random);
             self.cuts(&image);
         }
+        let image = generate::restless(&mut self.random);
+        self.cuts(&image);
     }
 
     fn pair(&mut self, [first, second]: &[Vec<u8>; 2], more: &[isize]) {
@@ -529,6 +571,22 @@ impl Worker<'_> {
         let more = self.random.pick(&[-1, 0, 0, 0, 1]);
         self.image("limits", &image, &[more]);
     }
+
+    /// One round over random images of which many take three rounds.
+    fn rest_round(&mut self) {
+        for _ in 0..40 {
+            let image = generate::restless(&mut self.random);
+            let more = self.random.pick(&[-1, 1, 16, 40, 1000]);
+            if let Some(part) = self.image("rests", &image, &[0, more]) {
+                self.run_functions(&part, 1);
+            }
+        }
+        for _ in 0..5 {
+            let mut image = generate::restless(&mut self.random);
+            generate::damage(&mut self.random, &mut image);
+            self.image("rests", &image, &[0, -1]);
+        }
+    }
 }
 
 /// An output as long as the image.
@@ -554,33 +612,43 @@ const LONGER: usize = 100;
 /// fault.
 const RECORDS: &str = "returned function";
 
-/// Compares the records of each function as sent and as returned by the default and by
-/// the fuller rewrite, where the premise holds, from several registers and against several
-/// outsides. Gives the number of pairs of runs and of their entries.
+/// The rewrites whose returned functions are run.
+const RUN: [(Operation, &str); 3] = [
+    (Operation::Rewrite, "the default rewrite"),
+    (Operation::Fuller, "the fuller rewrite"),
+    (Operation::Rest, "the rewrite until it rests"),
+];
+
+/// Compares the records of each function as sent and as returned by the default rewrite, by the
+/// fuller one and by the one until it rests, where the premise holds, from several registers and
+/// against several outsides. Gives the number of pairs of runs and of their entries.
 pub fn records(part: &Part, random: &mut Random, tries: usize) -> Result<(u64, u64), Difference> {
     let Part { image, expected } = part;
-    let default = expected.written(Operation::Rewrite);
-    let (Some(default), Some(fuller)) = (default, expected.written(Operation::Fuller)) else {
+    if !expected.accepted() {
         return Ok((0, 0));
-    };
+    }
     let (mut runs, mut entries) = (0, 0);
-    let returned = cells::functions(default).zip(cells::functions(fuller));
-    for (sent, (default, fuller)) in cells::functions(image).zip(returned) {
+    let written = |(operation, _)| cells::functions(expected.written(operation).unwrap());
+    let mut written = RUN.map(written);
+    for sent in cells::functions(image) {
+        let instrs = written.each_mut().map(|functions| functions.next().unwrap().instrs);
         if !runs::labels_at_one_place(sent.instrs) {
             continue;
         }
-        // What both return is run once.
-        let both = [("default", default.instrs), ("fuller", fuller.instrs)];
-        let returned = if fuller.instrs == default.instrs { &both[..1] } else { &both[..] };
+        // What several return is run once.
+        let returned = RUN.iter().zip(instrs).enumerate();
+        let returned = returned.filter(|(at, (_, this))| !instrs[..*at].contains(this));
+        let returned: Vec<(&str, &[Cell])> =
+            returned.map(|(_, ((_, rewrite), returned))| (*rewrite, returned)).collect();
         for _ in 0..tries {
             let misfits = random.pick(&[0, 2, 15]);
             let registers = runs::any_registers(random, misfits);
             let outside = Outside { seed: random.bits(), stops: random.pick(&[0, 3, 20]), misfits };
             let bound = random.pick(&[8, 40, 90]);
-            for (rewrite, returned) in returned {
+            for (rewrite, returned) in &returned {
                 let claims = runs::claims(sent.instrs, returned, &registers, outside, bound);
                 entries += claims.map_err(|error| Difference {
-                    what: format!("records under the {rewrite} rewrite"),
+                    what: format!("records under {rewrite}"),
                     expected: "the three claims".into(),
                     got: format!("{error}\n{}", hexadecimal(returned.as_flattened())),
                 })? as u64;
@@ -602,6 +670,7 @@ pub struct Outcome {
     pub counts: Vec<Count>,
     /// How often each refusal number was the answer.
     pub refusals: [u64; 27],
+    pub rests: Rests,
     pub occurred: Occurred,
     pub packing: Packing,
     pub factors: Factors,
@@ -622,6 +691,8 @@ pub enum Groups {
     Factors,
     /// Those of packed forms, and a few groups of images.
     Packed,
+    /// Those in which images take up to three rounds, and a few others.
+    Rest,
 }
 
 /// The exhaustive groups as a whole, then rounds of the random ones for the rest of
@@ -638,11 +709,12 @@ pub fn compare(
     let exhaustive = match groups {
         Groups::All => generate::exhaustive(),
         Groups::Packed => generate::packed(),
+        Groups::Rest => generate::rests(),
         Groups::Joined | Groups::Factors => Vec::new(),
     };
     let forms = match groups {
         Groups::All | Groups::Packed => forms::exhaustive(),
-        Groups::Joined | Groups::Factors => Vec::new(),
+        Groups::Joined | Groups::Factors | Groups::Rest => Vec::new(),
     };
     let pairs = generate::joined_short();
     let stop = AtomicBool::new(false);
@@ -655,6 +727,7 @@ pub fn compare(
                 random: Random::new(mix(seed ^ mix(index as u64))),
                 counts: Vec::new(),
                 refusals: [0; 27],
+                rests: Rests::default(),
                 occurred: Occurred::default(),
                 packing: Packing::default(),
                 factors: Factors::default(),
@@ -688,6 +761,9 @@ pub fn compare(
                     if groups == Groups::All {
                         worker.round();
                     }
+                    if one_of(&[Groups::Rest]) {
+                        worker.rest_round();
+                    }
                     if one_of(&[Groups::Joined]) {
                         worker.joined_round();
                     }
@@ -705,6 +781,7 @@ pub fn compare(
     let mut outcome = Outcome {
         counts: Vec::new(),
         refusals: [0; 27],
+        rests: Rests::default(),
         occurred: Occurred::default(),
         packing: Packing::default(),
         factors: Factors::default(),
@@ -719,6 +796,7 @@ pub fn compare(
             sum.images += count.images;
             sum.accepted += count.accepted;
             sum.differing += count.differing;
+            sum.third += count.third;
             sum.comparisons += count.comparisons;
             sum.pages += count.pages;
             sum.packed += count.packed;
@@ -726,6 +804,7 @@ pub fn compare(
         for (sum, count) in outcome.refusals.iter_mut().zip(worker.refusals) {
             *sum += count;
         }
+        outcome.rests.add(&worker.rests);
         outcome.occurred.add(&worker.occurred);
         outcome.packing.add(&worker.packing);
         outcome.factors.add(&worker.factors);
@@ -835,6 +914,7 @@ fn shown(subjects: &Subjects, found: &Found, images: &[Vec<u8>]) -> Option<Diffe
             expected.check_pack(*subject, image, &dirty(random, length + 2 * GUARD))
         }
         Lent::Law(cut) => packed::laws(*subject, image, cut),
+        Lent::RestLaw => rest::laws(*subject, image),
         Lent::Unpacked(_) | Lent::Number => return None,
     };
     differs.err()

@@ -142,7 +142,14 @@ pub fn exhaustive() -> Vec<Exhaustive> {
         short_lists(),
         short_sites(),
         short_with_events(),
+        short_rests(),
+        chains(),
     ]
+}
+
+/// Those in which images take up to three rounds until they rest, and those of lengths and refusals.
+pub fn rests() -> Vec<Exhaustive> {
+    vec![every_length(), every_refusal(), short_rests(), chains()]
 }
 
 /// Those in which packed forms differ.
@@ -692,6 +699,92 @@ pub fn events_for(instrs: &[Cell], mut writes: impl FnMut(u32) -> usize) -> Vec<
     events
 }
 
+/// Short lists with heads and events among the cells, in which images take one to three rounds until
+/// they rest: loads of one register, folds into it or into the one with the same low byte, labels
+/// that a removed jump leaves side by side.
+fn short_rests() -> Exhaustive {
+    let alphabet = vec![
+        load_i32(1, 5),
+        leaves::load(1, Const::Bool(true)),
+        leaves::load(1, Const::U32(3)),
+        computed(byte::AddI32, 1, 1, 1),
+        computed(byte::AddU32, 1, 1, 1),
+        computed(byte::CmpEq, 1, 1, 1),
+        computed(byte::AddI32, 257, 1, 1),
+        label(1),
+        label(2),
+        jmp(1),
+        borrow(None),
+        cells::head(7, 0, 0),
+    ];
+    Exhaustive {
+        name: "short rests",
+        more: &[0],
+        run: words(&alphabet, SHORT - 1),
+        count: words(&alphabet, SHORT),
+        image: Box::new(move |index| several_functions(&word(&alphabet, index))),
+    }
+}
+
+/// Chains of folds into one register and labels that removed jumps leave side by side, one before the
+/// other, with sites or without; alone, twice, or beside a function that takes one round or two.
+fn chains() -> Exhaustive {
+    let folds = [0, 1, 2, 3, 7, 64, 300];
+    let labels = [0, 1, 2, 9];
+    let events =
+        [(None, vec![]), (Some(store_var(1, Some(1), Some(2))), vec![write(2), borrow(Some(1))])];
+    // What else there is: before the chain, and behind it.
+    let resting = one_function(&[load_i32(1, 5), label(1), ret(Some(1))], &[]);
+    let two_rounds = one_function(&[load_i32(1, 5), load_i32(1, 6)], &[borrow(None)]);
+    let beside = [(None, None), (Some(&resting), None), (None, Some(&resting))];
+    let beside = beside.into_iter().chain([(Some(&two_rounds), None), (None, Some(&two_rounds))]);
+    let beside: Vec<[Vec<u8>; 2]> = beside
+        .map(|(before, behind)| [before, behind].map(|it| it.cloned().unwrap_or_default()))
+        .collect();
+    let arrangements = beside.len() + 1;
+    Exhaustive {
+        name: "chains",
+        more: &[NO_OUTPUT, -17, -16, -1, 0, 1, 16, 40, 1000],
+        run: 0,
+        count: folds.len() * labels.len() * events.len() * 4 * arrangements,
+        image: Box::new(move |index| {
+            let (folds, index) = (folds[index % folds.len()], index / folds.len());
+            let (labels, index) = (labels[index % labels.len()], index / labels.len());
+            let ((store, events), index) = (&events[index % events.len()], index / events.len());
+            let (register, index) = ([1, 1023][index % 2], index / 2);
+            let (labels_first, arrangement) = (index % 2 == 1, index / 2);
+            let mut parts = [chain(register, folds), doubled(labels)];
+            if labels_first {
+                parts.reverse();
+            }
+            let instrs = [store.iter().copied().collect(), parts.concat()].concat();
+            let function = one_function(&instrs, events);
+            match beside.get(arrangement) {
+                Some([before, behind]) => [&before[..], &function, behind].concat(),
+                None => function.repeat(2),
+            }
+        }),
+    }
+}
+
+/// A load and so many folds into its register, the last of several a comparison; nothing for none.
+fn chain(register: u16, folds: usize) -> Vec<Cell> {
+    let mut cells: Vec<Cell> =
+        (0..folds).map(|_| computed(byte::AddI32, register, register, register)).collect();
+    match &mut cells[..] {
+        [] => return cells,
+        [_] => {}
+        [.., last] => *last = same(register),
+    }
+    cells.insert(0, load_i32(register, 5));
+    cells
+}
+
+/// So many labels, each with a jump between it and itself.
+fn doubled(labels: usize) -> Vec<Cell> {
+    (0..labels as u16).flat_map(|name| [label(name), jmp(name), label(name)]).collect()
+}
+
 /// Two lists of images. Each of the one is joined with each of the other, both ways round.
 pub struct Pairs {
     pub name: &'static str,
@@ -713,7 +806,7 @@ pub fn joined_short() -> Pairs {
         ret(None),
         load_i32(1, 5),
         leaves::load(1, Const::Bool(true)),
-        computed(byte::AddI32, 2, 1, 1),
+        computed(byte::AddI32, 1, 1, 1),
         store_var(1, Some(1), Some(2)),
         make_record(3, Some(2)),
     ];
@@ -1345,6 +1438,81 @@ pub fn any_image(random: &mut Random) -> Vec<u8> {
     image
 }
 
+/// One to four functions, most of them with good sites, into which chains of folds into one register
+/// are put, and labels that a removed jump leaves side by side. Most such images take three rounds
+/// until they rest.
+pub fn restless(random: &mut Random) -> Vec<u8> {
+    let mut image = Vec::new();
+    for _ in 0..random.pick(&[1, 1, 2, 3, 4]) {
+        let shape = Shape { instrs: random.below(8), ..any_shape(random) };
+        let often = any_often(random);
+        let (mut instrs, mut events) = any_function_with(random, shape, often);
+        let labels = random.pick(&[0, 0, 50]);
+        for _ in 0..random.below(4) {
+            let at = random.below(instrs.len() + 1);
+            let piece = match random.chance(labels) {
+                true => any_doubled(random),
+                false => any_chain(random),
+            };
+            instrs.splice(at..at, piece);
+        }
+        if random.chance(10) {
+            spoil(random, &mut instrs, &mut events);
+        }
+        let name = random.bits() as u16;
+        cells::push_function(&mut image, name, &instrs, &events);
+    }
+    image
+}
+
+/// Up to four folds into a register behind a load of any kind, which may not be there; then another
+/// load or none.
+fn any_chain(random: &mut Random) -> Vec<Cell> {
+    let register = random.pick(&[0, 1, 2, 257, 1022]);
+    let kind = random.below(6);
+    let commands: [&[u8]; 6] = [
+        &[byte::AddI32, byte::SubI32, byte::MulI32, byte::CmpEq],
+        &[byte::AddU32, byte::SubU32, byte::CmpEq],
+        &[byte::AddFx, byte::SubFx, byte::MulFx, byte::CmpNe],
+        &[byte::AddF64, byte::SubF64, byte::MulF64, byte::DivF64, byte::CmpEq],
+        &[byte::BoolNot, byte::BoolAnd, byte::CmpEq],
+        &[byte::QNot, byte::QAnd, byte::QTruthNot, byte::CmpNe],
+    ];
+    let load = |random: &mut Random, kind| leaves::load(register, any_const(random, kind));
+    let mut cells = Vec::new();
+    if random.chance(85) {
+        cells.push(load(random, kind));
+    }
+    for _ in 0..random.pick(&[0, 1, 1, 1, 2, 3, 4]) {
+        // Also into the next register.
+        let dst = register + random.pick(&[0, 0, 0, 1]);
+        let command = random.pick(commands[kind]);
+        cells.push(computed(command, dst as u16, register as u16, register as u16));
+    }
+    if random.chance(25) {
+        let kind = random.below(6);
+        cells.push(load(random, kind));
+    }
+    cells
+}
+
+/// A label, a jump to it and the same label, or one of them changed; cells that aren't reached
+/// between.
+fn any_doubled(random: &mut Random) -> Vec<Cell> {
+    let name = random.below(LABELS) as u16;
+    let [before, jump, behind] = [(); 3].map(|()| match random.chance(10) {
+        true => random.below(LABELS) as u16,
+        false => name,
+    });
+    let mut cells = vec![label(before); random.pick(&[1, 1, 2])];
+    cells.push(jmp(jump));
+    if random.chance(20) {
+        cells.extend(any_chain(random));
+    }
+    cells.extend(vec![label(behind); random.pick(&[1, 1, 2])]);
+    cells
+}
+
 /// A single function with each label name at one place, to be run.
 pub fn runnable(random: &mut Random) -> Vec<u8> {
     let shape = Shape {
@@ -1378,7 +1546,7 @@ pub fn damaged(random: &mut Random) -> Vec<u8> {
     image
 }
 
-fn damage(random: &mut Random, image: &mut Vec<u8>) {
+pub(crate) fn damage(random: &mut Random, image: &mut Vec<u8>) {
     let count = image.len() / CELL;
     if count == 0 {
         image.push(random.bits() as u8);
@@ -1463,10 +1631,11 @@ pub fn any_pair(random: &mut Random) -> [Vec<u8>; 2] {
 }
 
 fn any_part(random: &mut Random) -> Vec<u8> {
-    match random.below(20) {
+    match random.below(24) {
         0..=8 => any_image(random),
         9..=13 => several(random),
         14..=18 => damaged(random),
+        19..=22 => restless(random),
         _ => {
             let functions = functions();
             (functions.image)(random.below(functions.count))

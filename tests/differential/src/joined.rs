@@ -95,6 +95,11 @@ impl Behind {
         Answers {
             sites: self.sites(first.sites, second.sites),
             written: [operation(0), operation(1), operation(2)],
+            rested: match (&first.rested, &second.rested) {
+                (Ok(first), Ok(second)) => Ok(first.joined(second)),
+                (Err(refusal), _) => Err(*refusal),
+                (_, Err(refusal)) => Err(self.moved(*refusal)),
+            },
             possible: match first.sites {
                 Err(_) => first.possible.clone(),
                 Ok(()) => second.possible.iter().map(|refusal| self.moved(*refusal)).collect(),
@@ -142,6 +147,10 @@ pub fn check_original(joined: &Part) -> Result<(), Difference> {
                 sites(&what, parts, whole)?
             }
         }
+    }
+    // Where the default rewrite is refused, so is this.
+    if let (Ok(parts), Ok(whole)) = (&parts.rested, &whole.rested) {
+        parts.check("the original joined, Rest", whole)?;
     }
     Ok(())
 }

@@ -20,6 +20,7 @@ pub mod packed;
 pub mod pages;
 pub mod program;
 pub mod random;
+pub mod rest;
 pub mod runs;
 pub mod sample;
 pub mod shrink;

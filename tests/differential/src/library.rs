@@ -63,6 +63,14 @@ mod linked {
             first: *mut usize,
             second: *mut usize,
         ) -> usize;
+        fn matchdesk_rewrite_until_rest(
+            image: *const u8,
+            image_length: usize,
+            out: *mut u8,
+            out_length: usize,
+            first: *mut usize,
+            second: *mut usize,
+        ) -> usize;
         fn matchdesk_pages(
             image: *const u8,
             image_length: usize,
@@ -171,6 +179,9 @@ mod linked {
         }
         fn fuller(&self, image: &[u8], out: &mut [u8]) -> Rewritten {
             answer(matchdesk_rewrite_fuller, image, out)
+        }
+        fn rest(&self, image: &[u8], out: &mut [u8]) -> Rewritten {
+            answer(matchdesk_rewrite_until_rest, image, out)
         }
         fn pages(&self, image: &[u8], out: &mut [u8]) -> Reply {
             reply(matchdesk_pages, image, out)

@@ -3,7 +3,9 @@
 
 use differential::answers::{Operation, Operations};
 use differential::compare::{self, hexadecimal, Difference};
-use differential::driver::{self, Count, Factors, Found, Groups, Lent, Occurred, Outcome, Packing};
+use differential::driver::{
+    self, Count, Factors, Found, Groups, Lent, Occurred, Outcome, Packing, Rests,
+};
 use differential::factors::{self, TURNS};
 use differential::model::Model;
 use differential::packed::FAULTS;
@@ -30,7 +32,7 @@ usage: [--seed N] [--seconds N] [--threads N]
        [--seed N] --sample FILE
        --replay FILE
        [--seed N] [--seconds N] --program FILE
-           [--word rewrite|fuller|pages|pack|unpack|factor]";
+           [--word rewrite|fuller|rest|pages|pack|unpack|factor]";
 
 fn options() -> Result<Options, String> {
     let now = SystemTime::now().duration_since(UNIX_EPOCH).unwrap_or_default();
@@ -124,20 +126,22 @@ fn premise_is_needed() -> Result<(), String> {
     let sent = [generate::label(1), generate::jmp(1), generate::label(1)];
     let image = generate::one_function(&sent, &[]);
     let expected = compare::expected(&image).map_err(|difference| difference.what)?;
-    let written = expected.written(Operation::Rewrite).ok_or("refused")?;
-    let returned = cells::functions(written).next().ok_or("no function")?;
-    if returned.instrs != [generate::label(1), generate::label(1)] {
-        return Err("Label 1, Jmp 1, Label 1 isn't Label 1, Label 1".into());
-    }
     if runs::labels_at_one_place(&sent) {
         return Err("the premise holds of Label 1, Jmp 1, Label 1".into());
     }
     let registers = runs::any_registers(&mut Random::new(1), 0);
     let outside = Outside { seed: 1, stops: 0, misfits: 0 };
-    match runs::claims(&sent, returned.instrs, &registers, outside, 40) {
-        Ok(_) => Err("the claims hold of Label 1, Jmp 1, Label 1".into()),
-        Err(_) => Ok(()),
+    for (operation, labels) in [(Operation::Rewrite, 2), (Operation::Rest, 1)] {
+        let written = expected.written(operation).ok_or("refused")?;
+        let returned = cells::functions(written).next().ok_or("no function")?;
+        if returned.instrs != vec![generate::label(1); labels] {
+            return Err(format!("{operation:?}: Label 1, Jmp 1, Label 1 isn't {labels} labels"));
+        }
+        if runs::claims(&sent, returned.instrs, &registers, outside, 40).is_ok() {
+            return Err(format!("{operation:?}: the claims hold of Label 1, Jmp 1, Label 1"));
+        }
     }
+    Ok(())
 }
 
 /// The model, and the proved library where it is linked.
@@ -170,6 +174,7 @@ fn compare(options: &Options) -> Result<String, String> {
         let names: Vec<&str> = subjects.iter().map(|subject| subject.name()).collect();
         return Ok(format!(
             "no difference between the original and: {}\n\
+             the rewrite until it rests: by the original again and again\n\
              the fuller rewrite: by the model, and by the original as far as it decides\n\
              the pages and the packed form: by the model\n\
              the factors: by the model, and by a search as far as it goes",
@@ -191,7 +196,7 @@ fn compare(options: &Options) -> Result<String, String> {
         Lent::Pages(more) => println!("lent buffer longer than the pages by {more}"),
         Lent::Packed(more) => println!("lent output longer than the packed form by {more}"),
         Lent::Unpacked(more) => println!("lent output longer than what is unpacked by {more}"),
-        Lent::Law(_) | Lent::Number => {}
+        Lent::Law(_) | Lent::RestLaw | Lent::Number => {}
     }
     println!("expected: {}", difference.expected);
     Err(format!("{subject}: {}", difference.got))
@@ -229,19 +234,21 @@ fn search(subjects: &[&'static dyn Operations], seed: u64) -> Result<(), Differe
 
 fn report(outcome: &Outcome) {
     let mut total = Count { name: "all", ..Count::default() };
-    // Differing: where the fuller rewrite writes other cells than the default one.
-    let columns = ["images", "accepted", "differing", "comparisons", "pages", "packed"];
+    // Differing: where the fuller rewrite writes other cells than the default one. Third: where the
+    // rewrite until it rests takes a third round.
+    let columns = ["images", "accepted", "differing", "third", "comparisons", "pages", "packed"];
     let columns = columns.map(|column| format!("{column:>12}"));
     println!("{:20} {}", "group", columns.join(" "));
     let line = |count: &Count| {
-        let Count { name, images, accepted, differing, comparisons, pages, packed } = count;
-        let numbers = [images, accepted, differing, comparisons, pages, packed];
+        let Count { name, images, accepted, differing, third, comparisons, pages, packed } = count;
+        let numbers = [images, accepted, differing, third, comparisons, pages, packed];
         println!("{name:20} {}", numbers.map(|number| format!("{number:>12}")).join(" "));
     };
     for count in &outcome.counts {
         total.images += count.images;
         total.accepted += count.accepted;
         total.differing += count.differing;
+        total.third += count.third;
         total.comparisons += count.comparisons;
         total.pages += count.pages;
         total.packed += count.packed;
@@ -249,6 +256,8 @@ fn report(outcome: &Outcome) {
     }
     line(&total);
     println!("refusals by number  {}", by_number(&outcome.refusals));
+    let Rests { rounds, longer } = &outcome.rests;
+    println!("rounds until rest   {}; the first longer than the last: {longer}", by_number(rounds));
     let Occurred { too_short, longest, shapes } = &outcome.occurred;
     println!("pages in a buffer too short (30) {too_short}, longest pages {longest}");
     let shapes: Vec<String> =

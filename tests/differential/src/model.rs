@@ -1,6 +1,6 @@
-//! Document 01's answers and document 02's fuller rewrite, written from the documents on cells
-//! and bytes. Document 02's pages are in `pages.rs`, its packed form in `packed.rs`, its factors in
-//! `factors.rs`.
+//! Document 01's answers, document 02's fuller rewrite and its rewrite until it rests, written from
+//! the documents on cells and bytes. Document 02's pages are in `pages.rs`, its packed form in
+//! `packed.rs`, its factors in `factors.rs`.
 
 use crate::answers::{Checked, Operation, Operations, Refusal, Reply, Rewritten, Success};
 use crate::cells::{self, Cell, Function};
@@ -10,8 +10,10 @@ use crate::leaves::{self, Computed, Const};
 use crate::legacy_lowering::byte;
 use crate::packed;
 use crate::pages;
+use crate::rest::Rested;
 use crate::table;
 use std::collections::{HashMap, HashSet};
+use std::convert::Infallible;
 
 pub struct Model;
 
@@ -36,6 +38,9 @@ impl Operations for Model {
     }
     fn fuller(&self, image: &[u8], out: &mut [u8]) -> Rewritten {
         run(Operation::Fuller, image, out)
+    }
+    fn rest(&self, image: &[u8], out: &mut [u8]) -> Rewritten {
+        run(Operation::Rest, image, out)
     }
     fn pages(&self, image: &[u8], out: &mut [u8]) -> Reply {
         pages::answer(image, out)
@@ -224,7 +229,7 @@ fn write_sites(function: &Function) -> Result<(), (u8, u32)> {
     Ok(())
 }
 
-// ---- Cleanup, CrystalFold, the whole rewrite, the fuller rewrite ----
+// ---- Cleanup, CrystalFold, the whole rewrite, the fuller rewrite, the rewrite until it rests ----
 
 fn run(operation: Operation, image: &[u8], out: &mut [u8]) -> Rewritten {
     if !cells::length_good(image) {
@@ -236,7 +241,11 @@ fn run(operation: Operation, image: &[u8], out: &mut [u8]) -> Rewritten {
     site_check(image)?;
     let (written, num_rewrites) = rewritten(operation, image);
     out[..written.len()].copy_from_slice(&written);
-    Ok(Success { length: written.len(), num_rewrites, changed: num_rewrites > 0 })
+    Ok(success(&written, num_rewrites))
+}
+
+fn success(written: &[u8], num_rewrites: u32) -> Success {
+    Success { length: written.len(), num_rewrites, changed: num_rewrites > 0 }
 }
 
 /// A rule set: the value that a command folds to on two known values. A command of one operand has
@@ -268,7 +277,22 @@ pub fn rewritten(operation: Operation, image: &[u8]) -> (Vec<u8>, u32) {
         Operation::Cleanup => passes(image, true, None),
         Operation::CrystalFold => passes(image, false, Some(&default_rules)),
         Operation::Fuller => passes(image, true, Some(&fuller_rules)),
+        Operation::Rest => {
+            let Rested { bytes, success, .. } = rested(image);
+            (bytes, success.num_rewrites)
+        }
     }
+}
+
+/// "Repeats the default rewrite until one reports 0, and returns the sum of the counts."
+pub fn rested(image: &[u8]) -> Rested {
+    let round = |image: &[u8]| {
+        let (written, count) = rewritten(Operation::Rewrite, image);
+        let success = success(&written, count);
+        Ok::<_, Infallible>((written, success))
+    };
+    let Ok(rested) = round(image).and_then(|first| Rested::after(first, round));
+    rested
 }
 
 /// Cleanup or not, then the fold by some rules or none.

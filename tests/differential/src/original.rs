@@ -1,7 +1,7 @@
 //! The original's answers on images, and its error texts as refusals.
 
 use crate::answers::{Operation, Refusal, Success};
-use crate::cells;
+use crate::cells::{self, Cell};
 use crate::codec;
 use crate::leaves;
 use crate::legacy_lowering::{byte, IrFunction, IrInstr, OwnershipPathEventKind};
@@ -11,6 +11,7 @@ use crate::passes::{
     run_default_opt_passes, validate_activation_sites, validate_write_sites, IrModule, OptError,
     OptPass, OptReport,
 };
+use crate::rest::Rested;
 use std::collections::HashMap;
 
 /// The original's error texts, or how they begin, and their numbers; `{}` stands
@@ -63,6 +64,7 @@ pub fn run(operation: Operation, functions: &mut Vec<IrFunction>) -> Result<OptR
         Operation::Cleanup => one(&StructuralCleanupPass, functions),
         Operation::CrystalFold => one(&CrystalFoldPass, functions),
         Operation::Fuller => Err(OptError("the original has no fuller rewrite".into())),
+        Operation::Rest => Err(OptError("the original rewrites once".into())),
     }
 }
 
@@ -70,7 +72,9 @@ pub fn run(operation: Operation, functions: &mut Vec<IrFunction>) -> Result<OptR
 pub struct Answers {
     pub sites: Result<(), Refusal>,
     /// What each operation writes, in the order of `ORIGINALS`.
-    pub written: [Result<(Vec<u8>, Success), Refusal>; 3],
+    pub written: [Written; 3],
+    /// The default rewrite again and again, until it reports 0.
+    pub rested: Result<Rested, Refusal>,
     /// The refusals that the original could give, for any order of its hash maps.
     pub possible: Vec<Refusal>,
 }
@@ -94,36 +98,60 @@ pub fn answers(image: &[u8]) -> Result<Answers, String> {
         Err(Refusal { position, .. }) => possible(position, &functions[position as usize]),
     };
 
-    let cleaned = written(Operation::Cleanup, image, functions.clone())?;
-    let mut folded = written(Operation::CrystalFold, image, functions.clone())?;
-    let mut both = written(Operation::Rewrite, image, functions)?;
+    let cleaned = written(Operation::Cleanup, image, &mut functions.clone())?;
+    let mut folded = written(Operation::CrystalFold, image, &mut functions.clone())?;
+    let mut module = functions;
+    let mut both = written(Operation::Rewrite, image, &mut module)?;
     if let Ok((bytes, _)) = &mut folded {
         write_one_nan(image, bytes);
     }
     if let (Ok((cleaned, _)), Ok((bytes, _))) = (&cleaned, &mut both) {
-        write_one_nan(cleaned, bytes);
+        if write_one_nan(cleaned, bytes) {
+            module = codec::decode(bytes);
+        }
     }
-    Ok(Answers { sites, written: [both, cleaned, folded], possible })
+    let rested = match &both {
+        Ok(first) => Ok(rested(first.clone(), module)?),
+        Err(refusal) => Err(*refusal),
+    };
+    Ok(Answers { sites, written: [both, cleaned, folded], rested, possible })
+}
+
+/// Runs the passes on a module again that they have returned, until they report 0.
+fn rested(first: (Vec<u8>, Success), mut module: Vec<IrFunction>) -> Result<Rested, String> {
+    Rested::after(first, |before| {
+        let again = written(Operation::Rewrite, before, &mut module)?;
+        let (mut bytes, success) =
+            again.map_err(|refusal| format!("a further round: {refusal}"))?;
+        if has_another_nan(&bytes) {
+            let cleaned = written(Operation::Cleanup, before, &mut codec::decode(before))?;
+            let (cleaned, _) = cleaned.map_err(|refusal| format!("a further round: {refusal}"))?;
+            if write_one_nan(&cleaned, &mut bytes) {
+                module = codec::decode(&bytes);
+            }
+        }
+        Ok((bytes, success))
+    })
 }
 
 /// What CrystalFold alone writes for an image that passes the site check.
 pub fn crystalfold(image: &[u8]) -> Result<(Vec<u8>, Success), String> {
-    let folded = written(Operation::CrystalFold, image, codec::decode(image))?;
+    let folded = written(Operation::CrystalFold, image, &mut codec::decode(image))?;
     let (mut bytes, success) = folded.map_err(|refusal| refusal.to_string())?;
     write_one_nan(image, &mut bytes);
     Ok((bytes, success))
 }
 
-type Written = Result<(Vec<u8>, Success), Refusal>;
+pub type Written = Result<(Vec<u8>, Success), Refusal>;
 
 fn written(
     operation: Operation,
     image: &[u8],
-    mut functions: Vec<IrFunction>,
+    functions: &mut Vec<IrFunction>,
 ) -> Result<Written, String> {
-    match run(operation, &mut functions) {
+    match run(operation, functions) {
         Ok(OptReport { changed, num_rewrites }) => {
-            let bytes = codec::encode(&functions);
+            let bytes = codec::encode(functions);
             let length = bytes.len();
             if length > image.len() {
                 return Err(format!("{operation:?} makes the image longer"));
@@ -141,14 +169,27 @@ fn written(
 
 /// Writes the NaN of a folded f64 result as document 01 does. CrystalFold keeps
 /// every cell's place, so a LoadF64 was folded if another command stood there.
-fn write_one_nan(before: &[u8], after: &mut [u8]) {
+/// Says whether there was one with other bits.
+fn write_one_nan(before: &[u8], after: &mut [u8]) -> bool {
     assert_eq!(before.len(), after.len());
+    let mut changed = false;
     for (before, after) in cells::cells(before).iter().zip(after.as_chunks_mut().0) {
-        let folded = after[0] == byte::LoadF64 && before[0] != byte::LoadF64;
-        if folded && f64::from_bits(cells::double(after, 3)).is_nan() {
+        if before[0] != byte::LoadF64 && is_another_nan(after) {
             after[3..11].copy_from_slice(&leaves::NAN.to_le_bytes());
+            changed = true;
         }
     }
+    changed
+}
+
+/// A load of a NaN with other bits than those that document 01 writes.
+fn is_another_nan(cell: &Cell) -> bool {
+    let bits = || cells::double(cell, 3);
+    cell[0] == byte::LoadF64 && bits() != leaves::NAN && f64::from_bits(bits()).is_nan()
+}
+
+fn has_another_nan(image: &[u8]) -> bool {
+    cells::cells(image).iter().any(is_another_nan)
 }
 
 /// Every refusal that the validators could give for a function they refuse.

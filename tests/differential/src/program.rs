@@ -50,6 +50,7 @@ impl<'a> Program<'a> {
         let text = match word {
             None | Some("rewrite") => Text::Rewritten(Operation::Rewrite),
             Some("fuller") => Text::Rewritten(Operation::Fuller),
+            Some("rest") => Text::Rewritten(Operation::Rest),
             Some("pages") => Text::Pages,
             Some("pack") => Text::Packed,
             Some("unpack") => Text::Unpacked,
@@ -127,7 +128,7 @@ pub fn compare(program: Program, seed: u64, seconds: u64) -> Result<String, Stri
 }
 
 fn input(random: &mut Random) -> Vec<u8> {
-    match random.below(44) {
+    match random.below(48) {
         0..=14 => generate::any_image(random),
         15..=26 => generate::damaged(random),
         27..=32 => {
@@ -142,6 +143,7 @@ fn input(random: &mut Random) -> Vec<u8> {
         37..=38 => generate::limit(random),
         39..=41 => generate::paged(random),
         42 => generate::longest_pages(random),
+        43..=46 => generate::restless(random),
         // Much more than an image may have.
         _ => vec![random.pick(&[0, 0xF0, 0x2B]); MAX_IMAGE + random.below(1 << 20)],
     }

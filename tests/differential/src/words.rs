@@ -32,7 +32,7 @@ pub enum Answer {
 pub const LONGEST: usize = 64;
 
 const USAGE: &str = "\
-usage: matchdesk [rewrite | fuller | bytes | check | pages | pack] < image
+usage: matchdesk [rewrite | fuller | rest | bytes | check | pages | pack] < image
        matchdesk unpack < packed
        matchdesk factor (fx | i32) WANTED FACTOR
 ";
@@ -209,7 +209,7 @@ const NO_PRODUCTS: &str =
 
 /// None of these is `factor`.
 const NO_FACTORS: &str = "|f|facto|actor|Factor|FACTOR|factors|factor |-factor|factorfactorfact|\
-    factorfactorfacto|rewrite|bytes|pages|pack|unpack";
+    factorfactorfacto|rewrite|rest|bytes|pages|pack|unpack";
 
 /// Numbers, or nearly.
 const NUMBERS: &str = "0|1|5|-5|+5|1000|-0|+0|00|-00|007|-007|+007|2147483646|2147483647|\

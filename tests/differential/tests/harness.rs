@@ -753,6 +753,9 @@ impl Operations for Wrong {
         }
         Ok(success)
     }
+    fn rest(&self, image: &[u8], out: &mut [u8]) -> Rewritten {
+        Model.rest(&self.taken(image), out)
+    }
     packing_of_the_model!();
     fn factor(&self, leaf: Leaf, wanted: i32, factor: i32, other: &mut i32) -> usize {
         Model.factor(leaf, wanted, factor, other)
@@ -966,8 +969,8 @@ fn printed_example() {
     ];
     let written = expected.written(Operation::Rewrite).unwrap();
     assert_eq!(compare::hexadecimal(written), lines.join("\n"));
-    // Nothing that only the fuller one folds is in it: both rewrites write it.
-    for operation in [Operation::Rewrite, Operation::Fuller] {
+    // Nothing that only the fuller one folds is in it, and it rests: all three rewrites write it.
+    for operation in [Operation::Rewrite, Operation::Fuller, Operation::Rest] {
         let text = |image: &[u8]| program::text(operation, image).unwrap();
         assert_eq!(text(&image), format!("{}\nrewrites 1\n", lines.join("\n")));
         assert_eq!(text(&[]), "rewrites 0\n");

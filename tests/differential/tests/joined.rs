@@ -18,7 +18,7 @@ use differential::model::{self, Model};
 use differential::random::Random;
 use differential::table;
 use std::collections::HashSet;
-use Operation::{Cleanup, CrystalFold, Fuller, Rewrite};
+use Operation::{Cleanup, CrystalFold, Fuller, Rest, Rewrite};
 
 /// A program that answers as the model does but for one fault in one of its operations.
 #[derive(Debug, Clone, Copy)]
@@ -72,38 +72,47 @@ enum Carried {
     Known,
 }
 
-const WRONG: [Wrong; 44] = [
+const WRONG: [Wrong; 53] = [
     Wrong(Run(Rewrite), Carries(Carried::Label)),
     Wrong(Run(Cleanup), Carries(Carried::Label)),
     Wrong(Run(Fuller), Carries(Carried::Label)),
+    Wrong(Run(Rest), Carries(Carried::Label)),
     Wrong(Run(Rewrite), Carries(Carried::Unreachable)),
     Wrong(Run(Cleanup), Carries(Carried::Unreachable)),
     Wrong(Run(Fuller), Carries(Carried::Unreachable)),
+    Wrong(Run(Rest), Carries(Carried::Unreachable)),
     Wrong(Run(Rewrite), Carries(Carried::Jmp)),
     Wrong(Run(Cleanup), Carries(Carried::Jmp)),
     Wrong(Run(Fuller), Carries(Carried::Jmp)),
+    Wrong(Run(Rest), Carries(Carried::Jmp)),
     Wrong(Run(Rewrite), Carries(Carried::Load)),
     Wrong(Run(Cleanup), Carries(Carried::Load)),
     Wrong(Run(Fuller), Carries(Carried::Load)),
+    Wrong(Run(Rest), Carries(Carried::Load)),
     Wrong(Run(Rewrite), Carries(Carried::Sites)),
     Wrong(Run(Cleanup), Carries(Carried::Sites)),
     Wrong(Run(Fuller), Carries(Carried::Sites)),
+    Wrong(Run(Rest), Carries(Carried::Sites)),
     Wrong(Run(CrystalFold), Carries(Carried::Known)),
     Wrong(Run(Fuller), Carries(Carried::Known)),
+    Wrong(Run(Rest), Carries(Carried::Known)),
     Wrong(Run(Rewrite), CountForgetsTheFirst),
     Wrong(Run(Cleanup), CountForgetsTheFirst),
     Wrong(Run(CrystalFold), CountForgetsTheFirst),
     Wrong(Run(Fuller), CountForgetsTheFirst),
+    Wrong(Run(Rest), CountForgetsTheFirst),
     Wrong(Run(Rewrite), CountIsTheGreatest),
     Wrong(Run(Rewrite), ChangedAsTheLast),
     Wrong(Run(Rewrite), OutputsInTheOtherOrder),
     Wrong(Run(Cleanup), OutputsInTheOtherOrder),
     Wrong(Run(CrystalFold), OutputsInTheOtherOrder),
     Wrong(Run(Fuller), OutputsInTheOtherOrder),
+    Wrong(Run(Rest), OutputsInTheOtherOrder),
     Wrong(Run(Rewrite), OutputsInTheirOldPlaces),
     Wrong(ImageCheck, PositionNotMoved),
     Wrong(SiteCheck, PositionNotMoved),
     Wrong(Run(Rewrite), PositionNotMoved),
+    Wrong(Run(Rest), PositionNotMoved),
     Wrong(ImageCheck, DetailFromTheFunction),
     Wrong(SiteCheck, DetailFromTheFunction),
     Wrong(Run(Rewrite), DetailFromTheFunction),
@@ -233,10 +242,21 @@ fn carrying(operation: Operation, image: &[u8], carried: Carried) -> (Vec<u8>, u
         CrystalFold => return folded(image, &model::default_rules, carried),
         Rewrite => &model::default_rules,
         Fuller => &model::fuller_rules,
+        Rest => return resting(image, carried),
     };
     let (bytes, one) = cleaned(image, carried);
     let (bytes, two) = folded(&bytes, rules, carried);
     (bytes, one + two)
+}
+
+/// The default rewrite in which something is carried over, until it reports 0.
+fn resting(image: &[u8], carried: Carried) -> (Vec<u8>, u32) {
+    let (bytes, count) = carrying(Rewrite, image, carried);
+    if count == 0 {
+        return (bytes, 0);
+    }
+    let (bytes, more) = resting(&bytes, carried);
+    (bytes, count + more)
 }
 
 /// The functions of an image as images of their own, as far as their heads can be followed.
@@ -424,6 +444,9 @@ impl Operations for Wrong {
     fn fuller(&self, image: &[u8], out: &mut [u8]) -> Rewritten {
         self.answer(Fuller, image, out)
     }
+    fn rest(&self, image: &[u8], out: &mut [u8]) -> Rewritten {
+        self.answer(Rest, image, out)
+    }
     packing_of_the_model!();
     fn factor(&self, leaf: Leaf, wanted: i32, factor: i32, other: &mut i32) -> usize {
         Model.factor(leaf, wanted, factor, other)
@@ -462,7 +485,7 @@ fn every_leaning_program_is_found() {
 /// which something is claimed.
 #[test]
 fn the_model_is_right() {
-    let outcome = driver::compare(Groups::Joined, &[&Model], 1, 5, 1);
+    let outcome = driver::compare(Groups::Joined, &[&Model], 1, 15, 1);
     assert!(outcome.found.is_none());
     let count = |name| outcome.counts.iter().find(|count| count.name == name).unwrap();
     let Pairs { firsts, seconds, .. } = generate::joined_short();
@@ -492,7 +515,7 @@ fn leaning_programs_are_right_on_one_function() {
 #[test]
 fn carrying_nothing_is_right() {
     let check = |image: &[u8]| {
-        for operation in [Rewrite, Cleanup, CrystalFold, Fuller] {
+        for operation in [Rewrite, Cleanup, CrystalFold, Fuller, Rest] {
             let right = model::rewritten(operation, image);
             assert!(carrying(operation, image, Carried::Nothing) == right, "{operation:?}");
         }
@@ -574,7 +597,7 @@ fn outputs_by_hand() {
     ] {
         let joined = joined::joined(first, second).unwrap();
         let success = Success { length: written.len(), num_rewrites: 1, changed: true };
-        for operation in [Rewrite, Cleanup, Fuller] {
+        for operation in [Rewrite, Cleanup, Fuller, Rest] {
             let answer = joined.expected.operation(operation, &joined.image, &joined.image);
             assert_eq!(answer, (Ok(success), &written[..]));
         }

@@ -135,7 +135,7 @@ fn by_hand() {
     let wanted = "WANTED is no i32: a whole number from -2147483648 to 2147483647\n";
     let factor = "FACTOR is no i32: a whole number from -2147483648 to 2147483647\n";
     let usage =
-        "usage: matchdesk [rewrite | fuller | bytes | check | pages | pack] < image\n       \
+        "usage: matchdesk [rewrite | fuller | rest | bytes | check | pages | pack] < image\n       \
                  matchdesk unpack < packed\n       \
                  matchdesk factor (fx | i32) WANTED FACTOR\n";
     let rows = [

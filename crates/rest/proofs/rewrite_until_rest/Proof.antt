@@ -4,7 +4,7 @@ use native.Mathlib.Omega.{arith}
 use lib.Seq.{length-take-le}
 use denote.Ref.{now}
 use Rattle.crystalfold.specs.declared.rules.RuleSet.the-variants.{Default}
-use Rattle.rest.proofs.Answered.{rest-refused, first-ready, first-room, first-most, second-ready, second-most, counts-most, rest-written}
+use Rattle.rest.proofs.Answered.{First, Second, rest-refused, first-ready, first-round}
 use borrow.Author.Needs.{needs}
 use Rattle.rest.proofs.rewrite_until_rest.Statement.{statement}
 use Rattle.rest.proofs.rewrite_until_rest.Tie as tie
@@ -20,84 +20,37 @@ rewrite-functions-requires c κs =
     let b = c .before in
     let k = b .before .before .before in
     let q = k .before .before .before in
-    first-ready Default (now (q .args .image)) (now (q .args .out)) (k .check .ensures) (b .before .enum-told .given .1) (b .work-buffer .result)
-    (b .work-buffer .ensures)
+    first-ready Default (now (q .args .image)) (now (q .args .out)) (k .check .ensures) (b .before .enum-told .given .1) (b .work-buffer .result) (b .work-buffer .ensures)
+
+-- ---- after each round
+
+abbrev start : tie.After-rewrite-functions → tie.Start
+start w = w .before .before .before .before .before .before .before .before
+
+first : (w : tie.After-rewrite-functions) → First Default (now (start w .args .image)) (now (start w .args .out)) (w .rewrite-functions .last .1 .1 .0) (w .rewrite-functions .result)
+first w =
+    let b = w .before .before in
+    let k = b .before .before .before in
+    first-round Default (now (start w .args .image)) (now (start w .args .out)) (k .check .ensures) (b .before .enum-told .given .1) (b .work-buffer .result) _
+    (b .work-buffer .ensures) (w .rewrite-functions .result) (w .rewrite-functions .ensures)
+
+abbrev behind : tie.After-rewrite-functions2 → tie.After-rewrite-functions
+behind v = v .before .before .before .before
+
+second : (v : tie.After-rewrite-functions2) → Second Default (now (start (behind v) .args .image)) (now (start (behind v) .args .out)) (behind v .rewrite-functions .result) (v .rewrite-functions2 .last .1 .1 .0) (v .rewrite-functions2 .result)
+second v = first (behind v) .second _ (v .rewrite-functions2 .result) (v .rewrite-functions2 .ensures)
 
 mul-e : tie.Need-mul-e
-mul-e c =
-    let w = c .before in
-    let b = w .before .before in
-    let k = b .before .before .before in
-    let q = k .before .before .before in
-    omega (
-      arith,
-      first-most Default (now (q .args .image)) (now (q .args .out)) (k .check .ensures) (b .before .enum-told .given .1) (b .work-buffer .result) _
-          (b .work-buffer .ensures) _ (w .rewrite-functions .ensures),
-    )
-
-array-share-prefix-work : tie.Need-array-share-prefix-work
-array-share-prefix-work c =
-    let w = c .before in
-    let b = w .before .before in
-    let k = b .before .before .before in
-    let q = k .before .before .before in
-    first-room Default (now (q .args .image)) (now (q .args .out)) (k .check .ensures) (b .before .enum-told .given .1) (b .work-buffer .result) _
-    (b .work-buffer .ensures) _ (w .rewrite-functions .ensures)
+mul-e c = omega (arith, first (c .before) .most)
 
 slice-aggregate-rewrite-functions-2 : tie.Need-slice-aggregate-rewrite-functions-2
-slice-aggregate-rewrite-functions-2 c =
-    let w = c .before .before in
-    let b = w .before .before in
-    let k = b .before .before .before in
-    let q = k .before .before .before in
-    sym (length-take-le _ _
-    (first-room Default (now (q .args .image)) (now (q .args .out)) (k .check .ensures) (b .before .enum-told .given .1) (b .work-buffer .result) _
-    (b .work-buffer .ensures) _ (w .rewrite-functions .ensures)))
-
-rewrite-functions-requires-2 : tie.Need-rewrite-functions-requires-2
-rewrite-functions-requires-2 c κs =
-    let w = c .before .before .before in
-    let b = w .before .before in
-    let k = b .before .before .before in
-    let q = k .before .before .before in
-    second-ready Default (now (q .args .image)) (now (q .args .out)) (k .check .ensures) (b .before .enum-told .given .1) (b .work-buffer .result) _
-    (b .work-buffer .ensures) _ (w .rewrite-functions .ensures)
+slice-aggregate-rewrite-functions-2 c = sym (length-take-le _ _ (first (c .before .before) .room))
 
 add-num-rewrites : tie.Need-add-num-rewrites
-add-num-rewrites c =
-    let v = c .before .before in
-    let w = v .before .before .before .before in
-    let b = w .before .before in
-    let k = b .before .before .before in
-    let q = k .before .before .before in
-    omega (
-      arith,
-      counts-most Default (now (q .args .image)) (now (q .args .out)) (k .check .ensures) (b .before .enum-told .given .1) (b .work-buffer .result) _
-          (b .work-buffer .ensures) _ (w .rewrite-functions .ensures) _ _ (v .rewrite-functions2 .ensures),
-    )
+add-num-rewrites c = omega (arith, second (c .before .before) .counts)
 
 mul-t14 : tie.Need-mul-t14
-mul-t14 c =
-    let v = c .before .before in
-    let w = v .before .before .before .before in
-    let b = w .before .before in
-    let k = b .before .before .before in
-    let q = k .before .before .before in
-    omega (
-      arith,
-      second-most Default (now (q .args .image)) (now (q .args .out)) (k .check .ensures) (b .before .enum-told .given .1) (b .work-buffer .result) _
-          (b .work-buffer .ensures) _ (w .rewrite-functions .ensures) _ _ (v .rewrite-functions2 .ensures),
-    )
-
-returns-2 : tie.Need-returns-2
-returns-2 c =
-    let v = c .before .before in
-    let w = v .before .before .before .before in
-    let b = w .before .before in
-    let k = b .before .before .before in
-    let q = k .before .before .before in
-    rest-written Default (now (q .args .image)) (now (q .args .out)) (k .check .ensures) (b .before .enum-told .given .1) (b .work-buffer .result) _
-    (b .work-buffer .ensures) _ (w .rewrite-functions .ensures) _ _ (v .rewrite-functions2 .ensures)
+mul-t14 c = omega (arith, second (c .before .before) .most)
 
 pub rewrite-until-rest-spec : {M : Type 1} → statement M
 rewrite-until-rest-spec =
@@ -111,10 +64,10 @@ rewrite-until-rest-spec =
     (λ c. search needs)
     rewrite-functions-requires
     mul-e
-    array-share-prefix-work
+    (λ c. first (c .before) .room)
     slice-aggregate-rewrite-functions-2
-    rewrite-functions-requires-2
+    (λ c κs. first (c .before .before .before) .ready)
     add-num-rewrites
     mul-t14
     (λ c. search needs)
-    returns-2)
+    (λ c. second (c .before .before) .done))

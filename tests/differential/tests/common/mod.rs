@@ -4,6 +4,17 @@
 #[allow(unused_macros)]
 macro_rules! checks_and_rewrites_of_the_model {
     () => {
+        checks_and_rewrites_but_rest_of_the_model!();
+        fn rest(&self, image: &[u8], out: &mut [u8]) -> differential::answers::Rewritten {
+            Model.rest(image, out)
+        }
+    };
+}
+
+/// The same without the rewrite until it rests.
+#[allow(unused_macros)]
+macro_rules! checks_and_rewrites_but_rest_of_the_model {
+    () => {
         fn name(&self) -> &'static str {
             "wrong"
         }
