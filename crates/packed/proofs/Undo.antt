@@ -14,7 +14,9 @@ use Rattle.cells.specs.declared.refusal.Refusal.{Refusal}
 use Rattle.cells.specs.declared.refusal.Refusal.the-variants.{OutputTooShort}
 use Rattle.cells.proofs.Cells.{length-cells, flat-cells, cells-flat}
 use Rattle.cells.proofs.Facts.{by-test}
-use Rattle.cells.proofs.Over.{over-take}
+use Rattle.cells.specs.Functions.{functions}
+use Rattle.cells.proofs.Lists.{nothing-in}
+use Rattle.cells.proofs.Over.{over-nil, over-take}
 use Rattle.image.specs.Image.{imageAnswer, GoodImage}
 use Rattle.image.proofs.Good.{image-good}
 use Rattle.packed.specs.Form.{packFrom, packed}
@@ -215,6 +217,13 @@ module _ (s lent : List ℕ) where
   pub pack-written : (n : ℕ) (after : List ℕ) → imageAnswer s ≡ Good → n ≡ length (packed s) → n ≤ length lent → after ≡ over (packed s) lent → PackDone s lent after (Bytes n)
   pack-written n after g e l w =
       pack-done s lent after (Bytes n) (rw (pack-good s (image-good s .0 g), e) (done-written (packed s) lent after (omega arith) w))
+
+  -- of no cells it is no bytes
+  pub pack-nothing : length s ≡ 0 → PackDone s lent lent (Bytes 0)
+  unfolding imageAnswer functions packed
+  pack-nothing e =
+      let n : s ≡ [] = nothing-in s e in
+      pack-written 0 lent (rw n) (rw n) (omega arith) (rw n (sym (over-nil lent)))
 
   pub unpack-too-long : (n : ℕ) → Bytes n ≡ counted (unpacked s) → length lent < n → UnpackDone s lent lent (Refused OutputTooShort)
   unpack-too-long n k l =

@@ -18,10 +18,14 @@ pub enum Packing {
     Ends(usize, usize),
 }
 
-// Packs an image that the image check passes. (Only where an output may be too short is the packed form measured.)
+// Packs an image that the image check passes. Of no cells this is no bytes, and is answered at once. (Only where an output may be too short is the
+// packed form measured.)
 pub fn pack(image: &[u8], out: &mut [u8]) -> Packing
     ensures { λ r. ⌜ PackDone (now (image .entry)) (now (out .entry)) (now (out .exit)) r ⌝ }
 {
+    if image.len() == 0 {
+        return Packing::Bytes(0);
+    }
     let checked = image::check::check_image(image);
     if let Checked::Refused(x) = checked {
         return Packing::Refused(x);
