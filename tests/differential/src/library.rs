@@ -18,85 +18,42 @@ mod linked {
     /// Wanted value, factor, and the reference to the other.
     pub type Factor = unsafe extern "C" fn(i32, i32, *mut i32) -> usize;
 
-    extern "C" {
-        fn matchdesk_image_check(
-            image: *const u8,
-            image_length: usize,
-            position: *mut usize,
-            detail: *mut usize,
-        ) -> usize;
-        fn matchdesk_site_check(
-            image: *const u8,
-            image_length: usize,
-            position: *mut usize,
-            detail: *mut usize,
-        ) -> usize;
-        fn matchdesk_cleanup(
-            image: *const u8,
-            image_length: usize,
+    /// Declares the functions of a C form: its parameters and their types.
+    macro_rules! declared {
+        ($given:tt: $($name:ident)*) => {
+            extern "C" {
+                $(fn $name $given -> usize;)*
+            }
+        };
+    }
+
+    declared! {
+        (image: *const u8, length: usize, position: *mut usize, detail: *mut usize):
+        matchdesk_image_check
+        matchdesk_site_check
+    }
+    declared! {
+        (
+            given: *const u8,
+            length: usize,
             out: *mut u8,
             out_length: usize,
             first: *mut usize,
-            second: *mut usize,
-        ) -> usize;
-        fn matchdesk_crystalfold(
-            image: *const u8,
-            image_length: usize,
-            out: *mut u8,
-            out_length: usize,
-            first: *mut usize,
-            second: *mut usize,
-        ) -> usize;
-        fn matchdesk_rewrite(
-            image: *const u8,
-            image_length: usize,
-            out: *mut u8,
-            out_length: usize,
-            first: *mut usize,
-            second: *mut usize,
-        ) -> usize;
-        fn matchdesk_rewrite_fuller(
-            image: *const u8,
-            image_length: usize,
-            out: *mut u8,
-            out_length: usize,
-            first: *mut usize,
-            second: *mut usize,
-        ) -> usize;
-        fn matchdesk_rewrite_until_rest(
-            image: *const u8,
-            image_length: usize,
-            out: *mut u8,
-            out_length: usize,
-            first: *mut usize,
-            second: *mut usize,
-        ) -> usize;
-        fn matchdesk_pages(
-            image: *const u8,
-            image_length: usize,
-            out: *mut u8,
-            out_length: usize,
-            first: *mut usize,
-            second: *mut usize,
-        ) -> usize;
-        fn matchdesk_pack(
-            image: *const u8,
-            image_length: usize,
-            out: *mut u8,
-            out_length: usize,
-            first: *mut usize,
-            second: *mut usize,
-        ) -> usize;
-        fn matchdesk_unpack(
-            packed: *const u8,
-            packed_length: usize,
-            out: *mut u8,
-            out_length: usize,
-            first: *mut usize,
-            second: *mut usize,
-        ) -> usize;
-        fn matchdesk_factor_fx(wanted: i32, factor: i32, other: *mut i32) -> usize;
-        fn matchdesk_factor_i32(wanted: i32, factor: i32, other: *mut i32) -> usize;
+            second: *mut usize
+        ):
+        matchdesk_cleanup
+        matchdesk_crystalfold
+        matchdesk_rewrite
+        matchdesk_rewrite_fuller
+        matchdesk_rewrite_until_rest
+        matchdesk_pages
+        matchdesk_pack
+        matchdesk_unpack
+    }
+    declared! {
+        (wanted: i32, factor: i32, other: *mut i32):
+        matchdesk_factor_fx
+        matchdesk_factor_i32
     }
 
     /// What stands behind the references before a call: no answer has it.

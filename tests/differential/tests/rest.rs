@@ -23,9 +23,22 @@ use differential::runs::{any_registers, claims, Outside};
 #[derive(Debug, Clone, Copy, PartialEq)]
 struct Wrong(Fault);
 
-#[derive(Debug, Clone, Copy, PartialEq)]
-enum Fault {
-    NoFault,
+/// The faults; those given are also the list of what must be found.
+macro_rules! faults {
+    ($($(#[$said:meta])* $name:ident,)*) => {
+        #[derive(Debug, Clone, Copy, PartialEq)]
+        enum Fault {
+            NoFault,
+            $($(#[$said])* $name,)*
+            /// Of one image alone, which no group has but as what rests.
+            CountsEighty,
+        }
+
+        const FAULTS: &[Fault] = &[$(Fault::$name,)*];
+    };
+}
+
+faults! {
     // When it stops.
     OneRound,
     StopsAtOne,
@@ -107,86 +120,8 @@ enum Fault {
     PositionForgotten,
     DetailInBytes,
     DetailForgotten,
-    /// Of one image alone, which no group has but as what rests.
-    CountsEighty,
 }
 use Fault::*;
-
-const FAULTS: [Fault; 73] = [
-    OneRound,
-    StopsAtOne,
-    StopsAtTheSameLength,
-    StopsWhenNothingIsFolded,
-    StopsWithTheFirstFunction,
-    StopsWithTheLastFunction,
-    StopsWhenOneFunctionRests,
-    RefusesAThirdRound,
-    OnlyTheFirstFunctionGoesOn,
-    OnlyTheLastFunctionGoesOn,
-    LabelsLeft,
-    LoadsLeft,
-    LoadsOfAnotherKindLeft,
-    LoadsOfAnotherValueLeft,
-    OneCellGoes,
-    LoadU32Goes,
-    LoadsByTheLowByte,
-    TheFirstLoadStays,
-    RepeatedLabelsGo,
-    HeadsOfRoundOne,
-    EventsLost,
-    OnlyCleans,
-    OnlyFolds,
-    FoldsFirst,
-    FullerRules,
-    FullerAtFirst,
-    FullerLater,
-    CountOfTheFirstRound,
-    CountOfTheSecondRound,
-    CountOfTheLastRound,
-    CountOfTheGreatestRound,
-    CountOfTheRounds,
-    CountWithTheRounds,
-    CountOfTheCellsGone,
-    ThirdRoundCountsOne,
-    OneTooMany,
-    OneTooManyIfAny,
-    FoldsCountTwice,
-    ChangedByTheLastRound,
-    ChangedByTheSecondRound,
-    ChangedAlways,
-    LengthOfRoundOne,
-    LengthOfTheImage,
-    HandsRoundOneBack,
-    HandsTheImageBack,
-    WritesNothing,
-    RoundOneBehindTheEnd,
-    AByteOfRoundOneBehindTheEnd,
-    RoundOneBesideTheLast,
-    ImageBehindTheEnd,
-    ImageBehindTheEndOfThreeRounds,
-    ImageBehindRoundOne,
-    ClearsTheRest,
-    ClearsUpToRoundOne,
-    ClearsUpToTheImage,
-    TouchesAByteBehind,
-    FiveByTheResult,
-    FiveByRoundOne,
-    FiveAfterTheSites,
-    FiveAfterTheCells,
-    FiveBeforeOne,
-    FiveIfItFitsJust,
-    FiveIfItFitsJustAndChanges,
-    FiveWithTheLength,
-    SkipsTheSites,
-    SitesOfTheResult,
-    TouchesOnARefusal,
-    WritesWhatFits,
-    ImageBeforeTheSites,
-    PositionFromOne,
-    PositionForgotten,
-    DetailInBytes,
-    DetailForgotten,
-];
 
 // ---- Rounds ----
 
@@ -507,7 +442,7 @@ impl Operations for Wrong {
 
 #[test]
 fn every_wrong_rest_is_found() {
-    for fault in FAULTS {
+    for &fault in FAULTS {
         let outcome = driver::compare(Groups::Rest, &[&Wrong(fault)], 1, 20, 1);
         let found = outcome.found.unwrap_or_else(|| panic!("{fault:?} isn't found"));
         let what = &found.difference.what;
@@ -578,7 +513,7 @@ fn by_random_images_alone() {
     let images = random_images(1500);
     assert!(!shows(&images, Wrong(NoFault)) && !breaks_laws(&images, Wrong(NoFault)));
     let mut by_laws = Vec::new();
-    for fault in FAULTS {
+    for &fault in FAULTS {
         assert!(shows(&images, Wrong(fault)), "{fault:?}");
         if breaks_laws(&images, Wrong(fault)) {
             by_laws.push(fault);
