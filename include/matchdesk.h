@@ -1,6 +1,6 @@
 /*
  * The MatchDesk rewrite: image checks, cleanup, CrystalFold and the two whole rewrites of cell images (docs/FORMAT.md says what an image is), the
- * rewrite until it rests, the pages and the packed form of an image, and the other factor of a product.
+ * rewrite until it rests, the sealing check, the pages and the packed form of an image, and the other factor of a product.
  *
  * Library: target/staticlib/libcapi.a for Linux on x86-64, made by `rt staticlib capi`. Every function is proved to meet its contract
  * (crates/capi/specs/Contracts.antt), for images of all bytes and lengths, outputs of all lengths and all numbers.
@@ -28,7 +28,7 @@
 #endif
 
 /* The version of this interface: it rises when a function is added or an answer changes. */
-#define MATCHDESK_VERSION 8
+#define MATCHDESK_VERSION 9
 
 /* The bytes of a cell. */
 #define MATCHDESK_CELL 16
@@ -93,6 +93,19 @@ size_t matchdesk_image_check(const unsigned char *image, size_t image_length, si
 
 /* The site check: as the image check; then 11 to 26, function by function. */
 size_t matchdesk_site_check(const unsigned char *image, size_t image_length, size_t *position, size_t *detail);
+
+/*
+ * The sealing check: one numbering for a whole image, so that a site can be looked up without knowing the function. As the site check; then, over
+ * all functions together,
+ *
+ *   34  a function repeats an activation number of an earlier one
+ *   35  a function repeats a write number of an earlier one; only where no function has 34
+ *
+ * A number is the site of a StoreVar or, for write numbers, also of a MakeRecord; those of unreachable commands count. Activation and write numbers
+ * don't meet: the same one may be both. *position is that of the first function, in order, that repeats one, *detail its first such number in
+ * instruction order. What the rewriting operations below write of an image that passes, passes again; none of them asks for it.
+ */
+size_t matchdesk_sealing_check(const unsigned char *image, size_t image_length, size_t *position, size_t *detail);
 
 /*
  * The rewriting operations return 0 on success, and else the refusal's number: 1; then

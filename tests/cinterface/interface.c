@@ -291,6 +291,30 @@ static const struct rested {
     {"F007000008 2B0100 2047*13010001000100", {"F007000008 2048*2B0100", 2047}, {"F0070001 2B0100", 4094}},
 };
 
+/* The sealing check, document 02's W13, on images that the site check passes and the rewrite leaves. */
+static const struct sealed {
+    const char *image;
+    struct answer sealing_check;
+} sealed[] = {
+    /* different numbers; one activation number in two functions: the later one is named, whichever earlier one has it */
+    {"F0070001000100 4D000000000105 000105 F0080001000100 4D000000000106 000106", GOOD},
+    {"F0070001000100 4D000000000105 000105 F0080001000100 4D000000000105 000105", {34, 1, 5}},
+    {"F0070001000100 4D000000000105 000105 F0080001000100 4D000000000106 000106 F0090001000100 4D000000000105 000105", {34, 2, 5}},
+    {"F0070001000100 4D000000000106 000106 F0080001000100 4D000000000105 000105 F0090001000100 4D000000000105 000105", {34, 2, 5}},
+    /* functions without cells or numbers have their places */
+    {"F007 F0070001000100 4D000000000105 000105 F007 F0070001 0A01 F0080001000100 4D000000000105 000105", {34, 4, 5}},
+    /* 3 and 8 in function 0; 9, 8, 3 in function 1, its events the other way round: the first in instruction order */
+    {"F0070002000200 4D000000000103 4D000000000108 000103 000108 F0080003000300 4D000000000109 4D000000000108 4D000000000103 000103 000108 000109", {34, 1, 8}},
+    /* a write number, of StoreVar and MakeRecord; both are there; the same number as activation and as write number; the greatest one */
+    {"F0070001000100 320000000000000109 0100000000000109 F0080001000100 320000000000000109 0100000000000109", {35, 1, 9}},
+    {"F0070001000100 4D0000000000000000000109 0100000000000109 F0080001000100 320000000000000109 0100000000000109", {35, 1, 9}},
+    {"F0070001000200 4D0000000001050000000109 000105 0100000000000109 F0080001000200 4D0000000001050000000109 000105 0100000000000109", {34, 1, 5}},
+    {"F0070001000100 320000000000000109 0100000000000109 F0080001000100 320000000000000109 0100000000000109 "
+     "F0070001000100 4D000000000105 000105 F0080001000100 4D000000000105 000105", {34, 3, 5}},
+    {"F0070001000100 4D000000000105 000105 F0080001000100 320000000000000105 0100000000000105", GOOD},
+    {"F0070001000100 4D0000000001FFFFFFFF 0001FFFFFFFF F0080001000100 4D0000000001FFFFFFFF 0001FFFFFFFF", {34, 1, 4294967295}},
+};
+
 /* Pages, document 02's W1: an image and its lines, without their line feeds. */
 static const struct paged {
     const char *image, *lines[5];
@@ -920,6 +944,7 @@ int main(void)
         try_check("image_check", matchdesk_image_check, c->image, c->image_check);
         try_check("site_check", matchdesk_site_check, c->image, c->site_check);
         if (c->site_check.number != 0) {
+            try_check("sealing_check", matchdesk_sealing_check, c->image, c->site_check);
             try_refused("cleanup", matchdesk_cleanup, c->image, c->site_check);
             try_refused("crystalfold", matchdesk_crystalfold, c->image, c->site_check);
             try_refused("rewrite", matchdesk_rewrite, c->image, c->site_check);
@@ -944,6 +969,8 @@ int main(void)
         struct answer good = GOOD;
         try_check("image_check", matchdesk_image_check, r->image, good);
         try_check("site_check", matchdesk_site_check, r->image, good);
+        /* none of these has a number in two functions */
+        try_check("sealing_check", matchdesk_sealing_check, r->image, good);
         try_written("cleanup", matchdesk_cleanup, r->image, r->cleanup);
         try_written("crystalfold", matchdesk_crystalfold, r->image, r->crystalfold);
         try_written("rewrite", matchdesk_rewrite, r->image, r->rewrite);
@@ -965,6 +992,15 @@ int main(void)
         /* a further rewrite changes no byte */
         try_written("rewrite", matchdesk_rewrite, result, unchanged);
         try_written("rewrite_until_rest", matchdesk_rewrite_until_rest, result, unchanged);
+    }
+    for (size_t i = 0; i < sizeof sealed / sizeof *sealed; i++) {
+        struct answer good = GOOD;
+        struct written unchanged = UNCHANGED;
+        try_check("sealing_check", matchdesk_sealing_check, sealed[i].image, sealed[i].sealing_check);
+        /* the other operations accept it all the same */
+        try_check("site_check", matchdesk_site_check, sealed[i].image, good);
+        try_written("rewrite", matchdesk_rewrite, sealed[i].image, unchanged);
+        try_written("rewrite_fuller", matchdesk_rewrite_fuller, sealed[i].image, unchanged);
     }
     for (size_t i = 0; i < sizeof paged / sizeof *paged; i++) {
         size_t bytes = lines(paged[i].lines, sizeof paged[i].lines / sizeof *paged[i].lines, expected);

@@ -17,6 +17,7 @@ static ucontext_t host, guest;
 
 static void image_check(void) { number = matchdesk_image_check(image, length, &first, &second); }
 static void site_check(void) { number = matchdesk_site_check(image, length, &first, &second); }
+static void sealing_check(void) { number = matchdesk_sealing_check(image, length, &first, &second); }
 static void cleanup(void) { number = matchdesk_cleanup(image, length, out, sizeof out, &first, &second); }
 static void crystalfold(void) { number = matchdesk_crystalfold(image, length, out, sizeof out, &first, &second); }
 static void rewrite(void) { number = matchdesk_rewrite(image, length, out, sizeof out, &first, &second); }
@@ -36,8 +37,8 @@ struct function {
 };
 
 static const struct function functions[] = {
-    {"image_check", image_check, 1}, {"site_check", site_check, 1}, {"cleanup", cleanup, 1}, {"crystalfold", crystalfold, 1},
-    {"rewrite", rewrite, 1}, {"rewrite_fuller", rewrite_fuller, 1}, {"pages", pages, 1}, {"pack", pack, 1}, {"unpack", unpack, 32},
+    {"image_check", image_check, 1}, {"site_check", site_check, 1}, {"sealing_check", sealing_check, 1}, {"cleanup", cleanup, 1},
+    {"crystalfold", crystalfold, 1}, {"rewrite", rewrite, 1}, {"rewrite_fuller", rewrite_fuller, 1}, {"pages", pages, 1}, {"pack", pack, 1}, {"unpack", unpack, 32},
 };
 
 /* This one has memory for an image. */

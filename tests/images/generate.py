@@ -26,7 +26,7 @@ CASES = os.path.join(ROOT, "crates", "cases_passes")
 SAMPLE = os.path.join(ROOT, "tests", "differential", "sample.bin")
 
 GROUP, NAME, IMAGE, OUTPUT = range(4)
-IMAGE_CHECK, SITE_CHECK, CLEANUP, CRYSTALFOLD, REWRITE, FULLER, PAGES, PACK, UNPACK, REST = range(16, 26)
+IMAGE_CHECK, SITE_CHECK, CLEANUP, CRYSTALFOLD, REWRITE, FULLER, PAGES, PACK, UNPACK, REST, SEAL = range(16, 27)
 
 # The commands 01 to 51 by the Rust's names, each with the widths of its operands: document 01's, in the order in which the Rust's arm names them.
 COMMANDS = """
@@ -212,6 +212,21 @@ def with_pack(row):
     return row._replace(answers={**row.answers, PACK: check if len(check) == 3 else (packed(row.image), 0)})
 
 
+def sealed(row, *refusal):
+    """The row of an image that both checks pass with what the sealing check answers: good, or its refusal. Nothing else moves: the other operations
+    accept the image."""
+    return row._replace(answers={**row.answers, SEAL: refusal or ("", 0)})
+
+
+def with_seal(row):
+    """The row of an image with what the sealing check answers: it refuses as the site check, and an image of one function has no earlier one. Nothing
+    is said of others."""
+    check = row.answers.get(SITE_CHECK)
+    if not check or SEAL in row.answers or (len(check) == 2 and 1 < counts(row.image)[0]):
+        return row
+    return sealed(row, *check) if len(check) == 3 else sealed(row)
+
+
 def joined_bytes(words):
     """The bytes of words one after another; `WORD*N` is the word N times."""
     return b"".join(bytes.fromhex(word) * int(count or 1) for word, _, count in (word.partition("*") for word in words.split()))
@@ -233,6 +248,14 @@ def no_form(name, words, number, position, detail):
 FOUR = "F007000000FF03 000000000000000000000000000000*1023 " * 4
 LAST = "F007000000FF03 000000000000000000000000000000*1023 " * 3 + "F007000000FE03 000000000000000000000000000000*1022 "
 MOST = "F007000000FF03 000000000000000000000000000000*1023 " * 3 + "F0070000009F03 000000000000000000000000000000*927 F0070000080004 "
+
+# Functions for the sealing check, of one StoreVar with an activation number and its event; of one with a write number; of a MakeRecord with one; of
+# one StoreVar with both. A number has 8 digits, its first byte first.
+ACTIVATION = "F00700010001 4D0000000001{0} 0001{0} "
+STORED = "F00700010001 4D00000000000000000001{0} 01000000000001{0} "
+MADE = "F00700010001 3200000000000001{0} 01000000000001{0} "
+BOTH = "F00700010002 4D0000000001{0}01{1} 0001{0} 01000000000001{1} "
+FIVE, SIX, NINE = "05000000", "06000000", "09000000"
 
 # A name and rows each, in the order of the document's modules: the checks, cleanup, CrystalFold, the image run; then document 02's.
 GROUPS = [
@@ -1098,6 +1121,65 @@ GROUPS = [
         no_form("95 cells, and the 96th missing", MOST + "0A0100*95", 1, 0, 0),
         no_form("96 cells", MOST + "0A0100*96", 1, 0, 0),
     ]),
+    ("sealing, activation numbers", [
+        sealed(good("two numbers", ACTIVATION.format(FIVE) + ACTIVATION.format(SIX))),
+        sealed(good("one in both", ACTIVATION.format(FIVE) * 2), 34, 1, 5),
+        sealed(good("function 2 of 3 against function 0", ACTIVATION.format(FIVE) + ACTIVATION.format(SIX) + ACTIVATION.format(FIVE)), 34, 2, 5),
+        sealed(good("function 2 of 3 against function 1", ACTIVATION.format(SIX) + ACTIVATION.format(FIVE) * 2), 34, 2, 5),
+        sealed(good("in all three", ACTIVATION.format(FIVE) * 3), 34, 1, 5),
+        sealed(good("the first function that repeats one", ACTIVATION.format(FIVE) + ACTIVATION.format(SIX) * 2 + ACTIVATION.format(FIVE)), 34, 2, 6),
+        sealed(good("functions without numbers between", "F007 " + ACTIVATION.format(FIVE) + "F007 F0070001 0A01 F007 " + ACTIVATION.format(FIVE) + "F007"), 34, 5, 5),
+        sealed(good("number 0", ACTIVATION.format("00000000") * 2), 34, 1, 0),
+        sealed(good("the greatest number", ACTIVATION.format("FFFFFFFF") * 2), 34, 1, 4294967295),
+        sealed(good("absent sites", "F0070001 4D " * 3 + ACTIVATION.format("00000000"))),
+        sealed(good("numbers that differ in one byte", "".join(map(ACTIVATION.format, ("01000000", "00000000", "01010000", "01000100", "01000001"))))),
+        # the earlier function has 3, 8 and 4, in this order
+        sealed(good("the first in instruction order, not the least", "F00700030003 4D000000000103 4D000000000108 4D000000000104 000104 000103 000108 "
+                    "F00700030003 4D000000000109 4D000000000108 4D000000000103 000103 000108 000109"), 34, 1, 8),
+        sealed(good("the first in instruction order, not the greatest", "F00700030003 4D000000000103 4D000000000108 4D000000000104 000104 000103 000108 "
+                    "F00700030003 4D000000000109 4D000000000103 4D000000000108 000108 000103 000109"), 34, 1, 3),
+        # behind a Ret: the rewrites leave Ret, and both images then have the number once
+        sealed(cleaned("of an unreachable command", ACTIVATION.format(FIVE) + "F00700020001 0C 4D000000000105 000105",
+                       ACTIVATION.format(FIVE) + "F0070001 0C", 1), 34, 1, 5),
+        sealed(cleaned("of an earlier unreachable command", "F00700020001 0C 4D000000000105 000105 " + ACTIVATION.format(FIVE),
+                       "F0070001 0C " + ACTIVATION.format(FIVE), 1), 34, 1, 5),
+    ]),
+    ("sealing, write numbers", [
+        sealed(good("of StoreVars", STORED.format(NINE) * 2), 35, 1, 9),
+        sealed(good("of MakeRecords", MADE.format(NINE) * 2), 35, 1, 9),
+        sealed(good("of a StoreVar, then of a MakeRecord", STORED.format(NINE) + MADE.format(NINE)), 35, 1, 9),
+        sealed(good("of a MakeRecord, then of a StoreVar", MADE.format(NINE) + STORED.format(NINE)), 35, 1, 9),
+        sealed(good("of a MakeRecord with two events", "F00700010002 320000000000000109 0100000000000109 0100000000000109 " + MADE.format(SIX))),
+        sealed(good("the same, in both", "F00700010002 320000000000000109 0100000000000109 0100000000000109 " * 2), 35, 1, 9),
+        sealed(good("behind functions without cells", MADE.format(NINE) + "F007 F007 " + STORED.format(SIX) + MADE.format(SIX)), 35, 4, 6),
+        sealed(good("the first in instruction order", "F00700020002 320000000000000103 4D0000000000000000000108 0100000000000108 0100000000000103 "
+                    "F00700020002 4D0000000000000000000108 320000000000000103 0100000000000103 0100000000000108"), 35, 1, 8),
+    ]),
+    ("sealing, both", [
+        sealed(good("one number in each space", ACTIVATION.format(FIVE) + MADE.format(FIVE) + STORED.format(SIX))),
+        sealed(good("exchanged", BOTH.format(FIVE, SIX) + BOTH.format(SIX, FIVE))),
+        sealed(good("34 and 35 of one function", BOTH.format(FIVE, NINE) * 2), 34, 1, 5),
+        sealed(good("35 of an earlier function", MADE.format(NINE) * 2 + ACTIVATION.format(FIVE) * 2), 34, 3, 5),
+        sealed(good("34 of an earlier function", ACTIVATION.format(FIVE) * 2 + MADE.format(NINE) * 2), 34, 1, 5),
+        sealed(good("35 where 34 is none", BOTH.format(FIVE, NINE) + ACTIVATION.format(SIX) + STORED.format(NINE)), 35, 2, 9),
+    ]),
+    ("sealing, the site check first", [
+        refused("11 of a number that stands before", ACTIVATION.format(FIVE) + "F00700020001 4D000000000105 4D000000000105 000105", 11, 1, 5),
+        refused("21 of a number that stands before", MADE.format(NINE) + "F00700020001 320000000000000109 4D0000000000000000000109 0100000000000109", 21, 1, 9),
+        refused("24 behind 34", ACTIVATION.format(FIVE) * 2 + "F0070001 320000000000000107", 24, 2, 7),
+        refused("14 behind 35", MADE.format(NINE) * 2 + "F0070001 4D000000000107", 14, 2, 0),
+        refused("4 behind 34", ACTIVATION.format(FIVE) * 2 + "F0070001 2B000405", 4, 2, 7),
+    ]),
+    # functions of 1,023 StoreVars and their events, numbered from 0 and from 65,536; of 1,022 with one more that ends in 1,022 (FE 03)
+    ("sealing, many numbers", [
+        sealed(good("2,046 numbers", "F00700FF03FF03 4D0000000001*1023@6 0001*1023@2 F00700FF03FF03 4D000000000100000100*1023@6 000100000100*1023@2")),
+        sealed(good("the last repeats the last", "F00700FF03FF03 4D0000000001*1023@6 0001*1023@2 F00700FF03FF03 4D000000000100000100*1022@6 4D0000000001FE03 000100000100*1022@2 0001FE03"), 34, 1, 1022),
+        sealed(good("all are repeated", "F00700FF03FF03 4D0000000001*1023@6 0001*1023@2 " * 2), 34, 1, 0),
+        sealed(good("all write numbers are repeated", "F00700FF03FF03 3200000000000001*1023@8 01000000000001*1023@7 " * 2), 35, 1, 0),
+        sealed(good("4,096 functions without numbers", "F007*4096")),
+        sealed(good("129 cells", "F007*123 " + ACTIVATION.format(FIVE) * 2), 34, 124, 5),
+        sealed(good("128 cells", "F007*122 " + ACTIVATION.format(FIVE) * 2), 34, 123, 5),
+    ]),
 ]
 
 
@@ -1148,7 +1230,7 @@ def calls(operation, image, answer):
         yield from packing_calls(operation, image, answer)
         return
     n = runs(image)[0]
-    rooms = [0] if operation in (IMAGE_CHECK, SITE_CHECK) else [n, n + 1, n + 16]
+    rooms = [0] if operation in (IMAGE_CHECK, SITE_CHECK, SEAL) else [n, n + 1, n + 16]
     if len(answer) == 2:
         output, rewrites = answer
         length = runs(output)[0]
@@ -1205,8 +1287,8 @@ def main():
         print(__doc__.strip())
         sys.exit(0 if "--help" in sys.argv[1:] else 2)
     lines = []
-    packing = [(group, [with_pack(row) for row in rows]) for group, rows in GROUPS]
-    for name, groups in (("images.bin", packing), ("sample.bin", sampled())):
+    groups = [(group, [with_seal(with_pack(row)) for row in rows]) for group, rows in GROUPS]
+    for name, groups in (("images.bin", groups), ("sample.bin", sampled())):
         data, written = records(groups)
         with open(os.path.join(CASES, "data", name), "wb") as out:
             out.write(data)

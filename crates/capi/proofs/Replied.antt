@@ -29,6 +29,10 @@ use Rattle.crystalfold.specs.declared.rules.RuleSet.{RuleSet}
 use Rattle.passes.specs.declared.Rewrite.{Rewrite}
 use Rattle.passes.specs.declared.Rewrite.the-variants.{Written, Refused}
 use Rattle.rest.specs.Contracts.{RestDone}
+use Rattle.sealing.specs.Contracts.{SealingChecked}
+use Rattle.sealing.specs.declared.Sealing.{Sealing}
+use Rattle.sealing.specs.declared.Sealing.the-variants.{Good as Sealable, Refused as RefusedSealing, Repeated}
+use Rattle.sites.specs.declared.Which.the-variants.{Activation, Write}
 use Rattle.factor.specs.Claim.{FactorFound}
 use Rattle.factor.specs.Factor.{factorFx, factorI32}
 use Rattle.factor.proofs.Claim.{factors-found-fx, factors-found-i32}
@@ -40,8 +44,8 @@ use Rattle.factor.specs.declared.Factor.{Factor}
 use Rattle.factor.specs.declared.Factor.the-variants.{Found, NoFactor}
 use Rattle.leaves.specs.declared.constant.ConstVal.{ConstVal}
 use Rattle.leaves.specs.declared.verdict.Verdict.{Verdict}
-use Rattle.capi.specs.Replies.{checkReply, rewriteReply, pagesReply, packingReply, factorReply}
-use Rattle.capi.specs.Contracts.{ImageReplied, SitesReplied, PassReplied, RewriteReplied, RestReplied, PagesReplied, PackReplied, UnpackReplied, FactorReplied}
+use Rattle.capi.specs.Replies.{checkReply, sealingReply, rewriteReply, pagesReply, packingReply, factorReply}
+use Rattle.capi.specs.Contracts.{ImageReplied, SitesReplied, SealingReplied, PassReplied, RewriteReplied, RestReplied, PagesReplied, PackReplied, UnpackReplied, FactorReplied}
 use Rattle.capi.specs.declared.FactorReply.{FactorReply}
 use Rattle.capi.specs.declared.Reply.{Reply}
 
@@ -67,6 +71,12 @@ refused (WriteSiteUnknown p d) e = omega (arith, e)
 check-zero : (r : Checked) → (checkReply r .number ≡ 0) ↔ (r ≡ Good)
 check-zero Good = ((λ e. refl), (λ e. refl))
 check-zero (RefusedBy x) = ((λ e. absurd (refused x e)), (λ e. ap (λ (r : Checked). checkReply r .number) e))
+
+sealing-zero : (r : Sealing) → (sealingReply r .number ≡ 0) ↔ (r ≡ Sealable)
+sealing-zero Sealable = ((λ e. refl), (λ e. refl))
+sealing-zero (RefusedSealing x) = ((λ e. absurd (refused x e)), (λ e. ap (λ (r : Sealing). sealingReply r .number) e))
+sealing-zero (Repeated Activation p x) = ((λ e. absurd (omega (arith, e))), (λ e. ap (λ (r : Sealing). sealingReply r .number) e))
+sealing-zero (Repeated Write p x) = ((λ e. absurd (omega (arith, e))), (λ e. ap (λ (r : Sealing). sealingReply r .number) e))
 
 rewrite-zero : (r : Rewrite) → (rewriteReply r .number ≡ 0) ↔ (isWritten r ≡ true)
 rewrite-zero (Written n report) = ((λ e. refl), (λ e. refl))
@@ -95,6 +105,13 @@ image-replied s r q h e = record { reply = e ∙ ap checkReply (h .answer); acce
 
 pub sites-replied : (s : List ℕ) (r : Checked) (q : Reply) → SiteChecked s r → q ≡ checkReply r → SitesReplied s (q .number) (q .first) (q .second)
 sites-replied s r q h e = record { reply = e ∙ ap checkReply (h .answer); accepted = via e (check-zero r) (h .accepted) }
+
+pub sealing-replied : (s : List ℕ) (r : Sealing) (q : Reply) → SealingChecked s r → q ≡ sealingReply r → SealingReplied s (q .number) (q .first) (q .second)
+sealing-replied s r q h e = record {
+  reply = e ∙ ap sealingReply (h .answer);
+  accepted = via e (sealing-zero r) (h .accepted);
+  checked = rw (sym (h .answer)) h;
+}
 
 pub pass-replied : (p : Pass) (s before after : List ℕ) (r : Rewrite) (q : Reply) → PassDone p s before after r → q ≡ rewriteReply r
     → PassReplied p s before after (q .number) (q .first) (q .second)

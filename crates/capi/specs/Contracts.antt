@@ -17,13 +17,15 @@ use Rattle.passes.specs.Contracts.{PassDone, RewriteDone}
 use Rattle.passes.specs.declared.Pass.{Pass}
 use Rattle.passes.specs.declared.Pass.the-variants.{Both}
 use Rattle.rest.specs.Contracts.{RestDone}
+use Rattle.sealing.specs.Contracts.{SealingPass, SealingChecked}
+use Rattle.sealing.specs.Sealing.{sealingAnswer}
 use Rattle.rest.specs.Rounds.{restAnswer}
 use Rattle.crystalfold.specs.declared.rules.RuleSet.{RuleSet}
 use Rattle.factor.specs.Claim.{IsFactor, Nearest}
 use Rattle.factor.specs.declared.Factor.{Factor}
 use Rattle.leaves.specs.declared.constant.ConstVal.{ConstVal}
 use Rattle.leaves.specs.declared.verdict.Verdict.{Verdict}
-use Rattle.capi.specs.Replies.{three, checkReply, rewriteReply, pagesReply, packingReply, two, factorReply}
+use Rattle.capi.specs.Replies.{three, checkReply, sealingReply, rewriteReply, pagesReply, packingReply, two, factorReply}
 
 pub record ImageReplied (s : List ℕ) (number first second : ℕ) : Type 0 where
   pub reply : three number first second ≡ checkReply (imageAnswer s)
@@ -32,6 +34,12 @@ pub record ImageReplied (s : List ℕ) (number first second : ℕ) : Type 0 wher
 pub record SitesReplied (s : List ℕ) (number first second : ℕ) : Type 0 where
   pub reply : three number first second ≡ checkReply (siteAnswer s)
   pub accepted : (number ≡ 0) ↔ SitesPass s
+
+pub record SealingReplied (s : List ℕ) (number first second : ℕ) : Type 0 where
+  pub reply : three number first second ≡ sealingReply (sealingAnswer s)
+  pub accepted : (number ≡ 0) ↔ SealingPass s
+  -- all that `sealing_check` promises: when each refusal is given
+  pub checked : SealingChecked s (sealingAnswer s)
 
 pub record PassReplied (p : Pass) (s before after : List ℕ) (number first second : ℕ) : Type 0 where
   pub reply : three number first second ≡ rewriteReply (passAnswer p s (length before))

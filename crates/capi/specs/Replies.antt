@@ -8,6 +8,9 @@ use Rattle.cells.specs.declared.refusal.Checked.{Checked}
 use Rattle.cells.specs.declared.refusal.Checked.the-variants.{Good, Refused as RefusedBy}
 use Rattle.passes.specs.declared.Rewrite.{Rewrite}
 use Rattle.passes.specs.declared.Rewrite.the-variants.{Written, Refused}
+use Rattle.sealing.specs.Contracts.{repeatNumber}
+use Rattle.sealing.specs.declared.Sealing.{Sealing}
+use Rattle.sealing.specs.declared.Sealing.the-variants.{Good as Sealable, Refused as RefusedSealing, Repeated}
 use Rattle.pages.specs.declared.Paged.{Paged}
 use Rattle.pages.specs.declared.Paged.the-variants.{Laid, Refused as RefusedPages, TooShort}
 use Rattle.packed.specs.declared.Packing.{Packing}
@@ -27,6 +30,12 @@ refusalReply x = three (numbersOf x .number) (numbersOf x .position) (numbersOf 
 abbrev pub checkReply : Checked → Reply
 checkReply Good = three 0 0 0
 checkReply (RefusedBy x) = refusalReply x
+
+-- and so does the sealing check's; 34 or 35, the function's position and its number, where it repeats one of an earlier function (document 02, W13)
+abbrev pub sealingReply : Sealing → Reply
+sealingReply Sealable = three 0 0 0
+sealingReply (RefusedSealing x) = refusalReply x
+sealingReply (Repeated w p x) = three (repeatNumber w) p x
 
 -- the length written and the count of rewrites; `changed` is whether the count isn't 0
 abbrev pub rewriteReply : Rewrite → Reply

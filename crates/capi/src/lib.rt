@@ -5,6 +5,7 @@ use factor::Factor;
 use packed::Packing;
 use pages::Paged;
 use passes::Rewrite;
+use sealing::Sealing;
 ghost use mathlib.Core.Path.{_≡_};
 ghost use Rattle.crystalfold.specs.declared.rules.RuleSet.the-variants.{Default, Fuller};
 ghost use Rattle.passes.specs.declared.Pass.the-variants.{Cleanup, CrystalFold};
@@ -12,8 +13,8 @@ ghost use Rattle.factor.specs.Factor.{factorFx, factorI32};
 ghost use Rattle.leaves.specs.Fixed.{mulFx};
 ghost use Rattle.leaves.specs.Signed.{mulI32};
 ghost use Rattle.leaves.specs.declared.constant.ConstVal.the-variants.{I32, Fx};
-ghost use Rattle.capi.specs.Replies.{refusalReply, checkReply, rewriteReply, pagesReply, packingReply, factorReply};
-ghost use Rattle.capi.specs.Contracts.{ImageReplied, SitesReplied, PassReplied, RewriteReplied, RestReplied, PagesReplied, PackReplied, UnpackReplied, FactorReplied};
+ghost use Rattle.capi.specs.Replies.{refusalReply, checkReply, rewriteReply, sealingReply, pagesReply, packingReply, factorReply};
+ghost use Rattle.capi.specs.Contracts.{ImageReplied, SitesReplied, SealingReplied, PassReplied, RewriteReplied, RestReplied, PagesReplied, PackReplied, UnpackReplied, FactorReplied};
 
 // An answer in three numbers: 0 or the refusal's number, then two more.
 pub struct Reply {
@@ -53,6 +54,21 @@ pub extern "C" fn matchdesk_site_check(
     ensures { λ r. ⌜ SitesReplied (now (image .entry)) r (now (position .exit)) (now (detail .exit)) ⌝ }
 {
     let r = reply_of_check(image::site_check(image));
+    *position = r.first;
+    *detail = r.second;
+    r.number
+}
+
+// The sealing check: 0, or the refusal's number.
+#[no_mangle]
+pub extern "C" fn matchdesk_sealing_check(
+    image: &[u8],
+    position: &mut usize,
+    detail: &mut usize,
+) -> usize
+    ensures { λ r. ⌜ SealingReplied (now (image .entry)) r (now (position .exit)) (now (detail .exit)) ⌝ }
+{
+    let r = reply_of_sealing(sealing::sealing_check(image));
     *position = r.first;
     *detail = r.second;
     r.number
@@ -229,6 +245,24 @@ fn reply_of_check(c: Checked) -> Reply
             second: 0,
         },
         Checked::Refused(x) => reply_of_refusal(x),
+    }
+}
+
+fn reply_of_sealing(c: Sealing) -> Reply
+    ensures { λ r. ⌜ r ≡ sealingReply c ⌝ }
+{
+    match c {
+        Sealing::Good => Reply {
+            number: 0,
+            first: 0,
+            second: 0,
+        },
+        Sealing::Refused(x) => reply_of_refusal(x),
+        Sealing::Repeated(w, position, x) => Reply {
+            number: sealing::repeat_number(w),
+            first: position,
+            second: x,
+        },
     }
 }
 

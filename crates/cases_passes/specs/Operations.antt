@@ -23,8 +23,12 @@ use Rattle.passes.specs.declared.Pass.the-variants.{Cleanup as CleanupPass, Cry
 use Rattle.passes.specs.declared.Rewrite.{Rewrite}
 use Rattle.passes.specs.declared.Rewrite.the-variants.{Written, Refused}
 use Rattle.rest.specs.Rounds.{restAnswer, restOutput}
+use Rattle.sealing.specs.Contracts.{repeatNumber}
+use Rattle.sealing.specs.Sealing.{sealingAnswer}
+use Rattle.sealing.specs.declared.Sealing.{Sealing}
+use Rattle.sealing.specs.declared.Sealing.the-variants.{Good as Sealable, Refused as RefusedSealing, Repeated}
 use Rattle.cases_passes.specs.declared.operation.Operation.{Operation}
-use Rattle.cases_passes.specs.declared.operation.Operation.the-variants.{ImageCheck, SiteCheck, Cleanup, CrystalFold, Default, Fuller, Pages, Pack, Unpack, Rest}
+use Rattle.cases_passes.specs.declared.operation.Operation.the-variants.{ImageCheck, SiteCheck, Cleanup, CrystalFold, Default, Fuller, Pages, Pack, Unpack, Rest, Seal}
 use Rattle.cases_passes.specs.declared.operation.Asked.{Asked}
 use Rattle.cases_passes.specs.declared.operation.Asked.the-variants.{Run, Unknown}
 use Rattle.cases_passes.specs.declared.operation.Reply.{Reply}
@@ -40,7 +44,8 @@ askedBy n =
     (cond (eqb n 22) (Run Pages)
     (cond (eqb n 23) (Run Pack)
     (cond (eqb n 24) (Run Unpack)
-    (cond (eqb n 25) (Run Rest) Unknown)))))))))
+    (cond (eqb n 25) (Run Rest)
+    (cond (eqb n 26) (Run Seal) Unknown))))))))))
 
 -- "success gives the length written and the report"; "the two checks .. on success answer only that"
 abbrev pub goodReply : ℕ → ℕ → Bool → Reply
@@ -52,6 +57,11 @@ refusedReply x = record { number = x .number; position = x .position; detail = x
 abbrev pub checkReply : Checked → Reply
 checkReply Good = goodReply 0 0 false
 checkReply (RefusedBy x) = refusedReply (numbersOf x)
+
+abbrev pub sealingReply : Sealing → Reply
+sealingReply Sealable = goodReply 0 0 false
+sealingReply (RefusedSealing x) = refusedReply (numbersOf x)
+sealingReply (Repeated w position x) = refusedReply (numbered (repeatNumber w) position x)
 
 abbrev pub rewriteReply : Rewrite → Reply
 rewriteReply (Written n report) = goodReply n (report .«num_rewrites») (report .changed)
@@ -79,8 +89,9 @@ answer Pages s n = pagesReply (pagesAnswer s n)
 answer Pack s n = packingReply (answerOf (packResult s) n)
 answer Unpack s n = packingReply (answerOf (unpackResult s) n)
 answer Rest s n = rewriteReply (restAnswer DefaultRules s n)
+answer Seal s n = sealingReply (sealingAnswer s)
 
--- what the lent bytes then are; "the two checks write nothing"
+-- what the lent bytes then are; "the two checks write nothing", nor does the sealing check
 abbrev pub output : Operation → List ℕ → List ℕ → List ℕ
 output ImageCheck s before = before
 output SiteCheck s before = before
@@ -92,3 +103,4 @@ output Pages s before = pagesOutput s before
 output Pack s before = outputOf (packResult s) before
 output Unpack s before = outputOf (unpackResult s) before
 output Rest s before = restOutput DefaultRules s before
+output Seal s before = before

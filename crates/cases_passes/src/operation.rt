@@ -4,13 +4,15 @@ ghost use mathlib.Core.Logic.{_↔_};
 ghost use mathlib.Core.Bool.{true};
 ghost use lib.ListN.{length};
 ghost use Rattle.cells.specs.Lists.{one};
-ghost use Rattle.cases_passes.specs.Operations.{askedBy, goodReply, refusedReply, checkReply, rewriteReply, pagesReply, packingReply, answer, output};
+ghost use Rattle.cases_passes.specs.Operations.{askedBy, goodReply, refusedReply, checkReply, sealingReply, rewriteReply, pagesReply, packingReply, answer, output};
 use cells::refusal::Checked;
 use cells::refusal::Numbers;
 use cells::refusal::numbers_of;
 use packed::Packing;
 use pages::Paged;
 use passes::Rewrite;
+use sealing::Sealing;
+use sealing::repeat_number;
 
 pub enum Operation {
     ImageCheck,
@@ -23,6 +25,7 @@ pub enum Operation {
     Pack,
     Unpack,
     Rest,
+    Seal,
 }
 
 // What a byte asks for.
@@ -31,7 +34,7 @@ pub enum Asked {
     Unknown,
 }
 
-// An answer's numbers. A refusal's are 0 0 0 on success, and the others are 0 on a refusal and of the two checks.
+// An answer's numbers. A refusal's are 0 0 0 on success, and the others are 0 on a refusal and of the checks.
 pub struct Reply {
     pub number: usize,
     pub position: usize,
@@ -55,6 +58,7 @@ pub fn asked_by(byte: u8) -> Asked
         23 => Asked::Run(Operation::Pack),
         24 => Asked::Run(Operation::Unpack),
         25 => Asked::Run(Operation::Rest),
+        26 => Asked::Run(Operation::Seal),
         _ => Asked::Unknown,
     }
 }
@@ -75,6 +79,7 @@ pub fn run(operation: Operation, image: &[u8], out: &mut [u8]) -> Reply
         Operation::Pack => of_packing(packed::pack(image, out)),
         Operation::Unpack => of_packing(packed::unpack(image, out)),
         Operation::Rest => of_rewrite(rest::rewrite_until_rest(image, out)),
+        Operation::Seal => of_sealing(sealing::sealing_check(image)),
     }
 }
 
@@ -84,6 +89,20 @@ fn of_check(r: Checked) -> Reply
     match r {
         Checked::Good => good(0, 0, false),
         Checked::Refused(x) => refused(numbers_of(x)),
+    }
+}
+
+fn of_sealing(r: Sealing) -> Reply
+    ensures { λ t. ⌜ t ≡ sealingReply r ⌝ }
+{
+    match r {
+        Sealing::Good => good(0, 0, false),
+        Sealing::Refused(x) => refused(numbers_of(x)),
+        Sealing::Repeated(w, position, detail) => refused(Numbers {
+            number: repeat_number(w),
+            position,
+            detail,
+        }),
     }
 }
 

@@ -20,9 +20,12 @@ use Rattle.passes.specs.declared.Pass.the-variants.{Both}
 use Rattle.passes.specs.declared.Rewrite.the-variants.{Refused}
 use Rattle.passes.proofs.Checked.{check-long}
 use Rattle.rest.specs.Rounds.{restAnswer}
+use Rattle.sealing.specs.Sealing.{sealingAnswer}
+use Rattle.sealing.specs.declared.Sealing.the-variants.{Refused as RefusedSealing}
+use Rattle.sealing.proofs.Outcomes.{site-refuses}
 use Rattle.matchdesk.specs.Program.{resultTexts, programTexts, LongInputs}
 use Rattle.matchdesk.specs.declared.Job.{Job}
-use Rattle.matchdesk.specs.declared.Job.the-variants.{Rewrite as RewriteJob, Rest, Bytes, Check, Pages, Pack, Unpack}
+use Rattle.matchdesk.specs.declared.Job.the-variants.{Rewrite as RewriteJob, Rest, Bytes, Check, Pages, Pack, Unpack, Seal}
 
 answer-long : (p : Pass) (image : List ℕ) → maxImage < length image → passAnswer p image maxImage ≡ Refused Length
 unfolding passAnswer
@@ -35,6 +38,9 @@ rest-long image h = rw (← check-long image maxImage h)
 site-long : (image : List ℕ) → maxImage < length image → siteAnswer image ≡ RefusedBy Length
 unfolding siteAnswer imageAnswer
 site-long image h = simp (lt-leb _ _ h)
+
+sealing-long : (image : List ℕ) → maxImage < length image → sealingAnswer image ≡ RefusedSealing Length
+sealing-long image h = site-refuses image Length (site-long image h)
 
 pack-long : (image : List ℕ) → maxImage < length image → packResult image ≡ refused Length
 unfolding packResult imageAnswer
@@ -52,6 +58,7 @@ ReadsImage Check = Unit {0}
 ReadsImage Pages = Unit {0}
 ReadsImage Pack = Unit {0}
 ReadsImage Unpack = ⊥
+ReadsImage Seal = Unit {0}
 
 pub images-long : (job : Job) (s t : List ℕ) → ReadsImage job → maxImage < length s → maxImage < length t → programTexts job s ≡ programTexts job t
 unfolding programTexts
@@ -62,6 +69,7 @@ images-long Check s t r h k = rw (site-long s h, site-long t k)
 images-long Pages s t r h k = rw (site-long s h, site-long t k)
 images-long Pack s t r h k = rw (pack-long s h, pack-long t k)
 images-long Unpack s t r h k = absurd r
+images-long Seal s t r h k = rw (sealing-long s h, sealing-long t k)
 
 pub long-inputs : LongInputs
 unfolding programTexts
@@ -72,3 +80,4 @@ long-inputs Check s t h k e = images-long Check t s tt k h
 long-inputs Pages s t h k e = images-long Pages t s tt k h
 long-inputs Pack s t h k e = images-long Pack t s tt k h
 long-inputs Unpack s t h k e = ap resultTexts (unpack-long t s e)
+long-inputs Seal s t h k e = images-long Seal t s tt k h

@@ -9,7 +9,7 @@ use lib.Ieee as Ieee
 use Rattle.leaves.specs.Signed.{wrap, addI32}
 use Rattle.leaves.specs.Float.{floatOf, bitsOf, divF64}
 use Rattle.leaves.specs.Quads.{quadOf}
-use Rattle.cells.specs.Assembler.{Head, LoadF64, LoadI32, LoadQ, AddI32, DivF64, QTruthNot, Ret, site, noSite, StoreVarSited, Borrow}
+use Rattle.cells.specs.Assembler.{Head, LoadF64, LoadI32, LoadQ, AddI32, DivF64, QTruthNot, Ret, site, noSite, StoreVarSited, MakeRecord, Borrow, Write}
 use Rattle.cells.specs.Cells.{Cell, flat}
 use Rattle.cells.specs.Check.{instructionCheck, eventCheck, headCheck}
 use Rattle.cells.specs.Functions.{functions}
@@ -33,8 +33,9 @@ use Rattle.packed.specs.Reading.{readCell, unpackFrom, unpacked}
 use Rattle.packed.specs.Operations.{packResult}
 use Rattle.pages.specs.Pages.{heading, cellLine as pageLine, pageLines, pagesText}
 use Rattle.rest.specs.Rounds.{restBytes, restCount, restAnswer}
+use Rattle.sealing.specs.Sealing.{numberingAnswer, sealingAnswer}
 use Rattle.numbers.specs.Numbers.{numberIn}
-use Rattle.matchdesk.specs.Program.{Texts, onOutput, onError, askedFor, productFor, programTexts, factorTexts, rewriteWord, fullerWord, restWord, bytesWord, checkWord, pagesWord, packWord, unpackWord}
+use Rattle.matchdesk.specs.Program.{Texts, onOutput, onError, askedFor, productFor, programTexts, factorTexts, rewriteWord, fullerWord, restWord, bytesWord, checkWord, pagesWord, packWord, unpackWord, sealWord}
 use Rattle.matchdesk.specs.declared.Asked.{Asked}
 use Rattle.matchdesk.specs.declared.Asked.the-variants.{For, Unknown}
 use Rattle.matchdesk.specs.declared.product.Chosen.{Chosen}
@@ -109,6 +110,10 @@ unpairedPacked =
     0xF0 ∷ 7 ∷ 0 ∷ 1 ∷ 0 ∷ 0 ∷ 0
     ∷ 0x4D ∷ 0 ∷ 0 ∷ 0 ∷ 0 ∷ 1 ∷ 9 ∷ 0 ∷ 0 ∷ 0 ∷ 0 ∷ 0 ∷ 0 ∷ 0 ∷ 0
     ∷ []
+
+-- MakeRecord with the write site 4,294,967,295, and its Write event
+made : List Cell
+made = Head 7 1 1 ∷ MakeRecord (site 4294967295) ∷ Write noSite (site 4294967295) ∷ []
 
 -- a head of function 7 that promises an instruction
 promising : List ℕ
@@ -217,7 +222,19 @@ cases =
     ∷ case unpackWord (promising ++ 0x2B ∷ 0 ∷ 4 ∷ 5 ∷ 0 ∷ 0 ∷ []) (some (onError (ascii "refused 32 0 1" ++ 10 ∷ [])))
     ∷ case unpackWord (0xF0 ∷ []) (some (onError (ascii "refused 32 0 0" ++ 10 ∷ [])))
     ∷ case unpackWord (examplePacked ++ 0 ∷ []) (some (onError (ascii "refused 32 1 4" ++ 10 ∷ [])))
-    -- no word: none at all, `byte`, `checks`, `full`, `page`, `packs`, `npack`, `rests`, `res`
+    -- the sealing check: no numbers, one, two of different kinds; an activation number twice, a write number behind a function without cells, both;
+    -- as the site check, and as the image check; `check` passes what it refuses by 34
+    ∷ case sealWord [] (some (onOutput good))
+    ∷ case sealWord (flat example) (some (onOutput good))
+    ∷ case sealWord (flat (sited ++ made)) (some (onOutput good))
+    ∷ case sealWord (flat (sited ++ sited)) (some (onOutput (ascii "refused 34 1 9" ++ 10 ∷ [])))
+    ∷ case sealWord (flat (made ++ Head 7 0 0 ∷ made)) (some (onOutput (ascii "refused 35 2 4294967295" ++ 10 ∷ [])))
+    ∷ case sealWord (flat (made ++ made ++ sited ++ sited)) (some (onOutput (ascii "refused 34 3 9" ++ 10 ∷ [])))
+    ∷ case checkWord (flat (sited ++ sited)) (some (onOutput good))
+    ∷ case sealWord (flat (sited ++ sited ++ unpaired)) (some (onOutput (ascii "refused 14 2 0" ++ 10 ∷ [])))
+    ∷ case sealWord (flat beyond) (some (onOutput (refused 52 49)))
+    ∷ case sealWord (0 ∷ []) (some (onOutput (refused 49 48)))
+    -- no word: none at all, `byte`, `checks`, `full`, `page`, `packs`, `npack`, `rests`, `res`, `seals`, `sea`
     ∷ case [] (flat example) none
     ∷ case (98 ∷ 121 ∷ 116 ∷ 101 ∷ []) (flat example) none
     ∷ case (checkWord ++ 115 ∷ []) (flat example) none
@@ -227,10 +244,12 @@ cases =
     ∷ case (110 ∷ packWord) examplePacked none
     ∷ case (restWord ++ 115 ∷ []) (flat example) none
     ∷ case (114 ∷ 101 ∷ 115 ∷ []) (flat example) none
+    ∷ case (sealWord ++ 115 ∷ []) (flat example) none
+    ∷ case (115 ∷ 101 ∷ 97 ∷ []) (flat example) none
     ∷ []
 
 pub worked : map (λ (c : ProgramCase). case (c .argument) (c .input) (doneFor (askedFor (c .argument)) (c .input))) cases ≡ cases
-unfolding doneFor example rewritten overwritten quads zeros apart beyond sited examplePacked sitedPacked unpaired unpairedPacked promising good refused count cases askedFor programTexts passAnswer passBytes passCheck passCount restAnswer restBytes restCount siteAnswer imageAnswer functions instructionCheck eventCheck headCheck rows siteOf eventSite siteBy repeatAnswer activationAnswer judgeBy cleanCode cleanCount cleanEvents cleanFunction foldCode foldsOf foldFunction defaultRules defaultTable fullerRules fullerTable note view loadCell quadOf classOf wrap addI32 decimal rewritesLine rewrittenText refusedText refusalText goodText floatOf bitsOf divF64 Ieee.eq Ieee.div Ieee.ofBits Ieee.toBits pagesText pageLines heading pageLine commandNames eventNames packResult packed rowSize unpacked unpackFrom readCell
+unfolding numberingAnswer sealingAnswer doneFor example rewritten overwritten quads zeros apart beyond sited examplePacked sitedPacked unpaired unpairedPacked made promising good refused count cases askedFor programTexts passAnswer passBytes passCheck passCount restAnswer restBytes restCount siteAnswer imageAnswer functions instructionCheck eventCheck headCheck rows siteOf eventSite siteBy repeatAnswer activationAnswer judgeBy cleanCode cleanCount cleanEvents cleanFunction foldCode foldsOf foldFunction defaultRules defaultTable fullerRules fullerTable note view loadCell quadOf classOf wrap addI32 decimal rewritesLine rewrittenText refusedText refusalText goodText floatOf bitsOf divF64 Ieee.eq Ieee.div Ieee.ofBits Ieee.toBits pagesText pageLines heading pageLine commandNames eventNames packResult packed rowSize unpacked unpackFrom readCell
 worked = refl
 
 -- ---- the words of products

@@ -1,6 +1,7 @@
 -- Promise: what the program is asked for, and what it writes to standard output and to standard error for each job. The text of the rewrite's answer is
 -- document 01's ('Cells on either edge', the last paragraph); of the fuller rewrite (document 02, W2) and of the rewrite until it rests (W11) it is the
--- same. The pages are document 02's (W1), and so are the packed form (W8) and the other factor (W14), which is found without an image.
+-- same. The pages are document 02's (W1), and so are the packed form (W8), the sealing check (W13) and the other factor (W14), which is found without
+-- an image.
 use mathlib.Core.Path.{_≡_}
 use mathlib.Core.List.{List, [], _∷_, _++_}
 use mathlib.Core.Bool.{Bool, true, false, cond, _&&_}
@@ -19,7 +20,7 @@ use Rattle.factor.specs.declared.Factor.{Factor}
 use Rattle.factor.specs.declared.Factor.the-variants.{Found, NoFactor}
 use Rattle.image.specs.SiteCheck.{siteAnswer}
 use Rattle.listing.specs.Places.{ascii}
-use Rattle.listing.specs.Text.{lineFeed, rewrittenText, refusedText, refusalText, checkedText}
+use Rattle.listing.specs.Text.{lineFeed, rewrittenText, refusedText, refusalText, goodText, checkedText}
 use Rattle.packed.specs.Operations.{packResult, unpackResult}
 use Rattle.packed.specs.Reading.{Result, bytes, refused, ends}
 use Rattle.pages.specs.Pages.{pagesText}
@@ -29,6 +30,10 @@ use Rattle.passes.specs.declared.Pass.the-variants.{Both}
 use Rattle.passes.specs.declared.Rewrite.{Rewrite}
 use Rattle.passes.specs.declared.Rewrite.the-variants.{Written, Refused}
 use Rattle.rest.specs.Rounds.{restBytes, restAnswer, restOutput}
+use Rattle.sealing.specs.Contracts.{repeatNumber}
+use Rattle.sealing.specs.Sealing.{sealingAnswer}
+use Rattle.sealing.specs.declared.Sealing.{Sealing}
+use Rattle.sealing.specs.declared.Sealing.the-variants.{Good as Sealable, Refused as RefusedSealing, Repeated}
 use Rattle.numbers.specs.Numbers.{numberIn, signed}
 use Rattle.numbers.specs.declared.Number.{Number}
 use Rattle.numbers.specs.declared.Number.the-variants.{Value, NoNumber}
@@ -39,7 +44,7 @@ use Rattle.matchdesk.specs.declared.product.Product.the-variants.{Fx, I3
 use Rattle.matchdesk.specs.declared.Asked.{Asked}
 use Rattle.matchdesk.specs.declared.Asked.the-variants.{For, Unknown}
 use Rattle.matchdesk.specs.declared.Job.{Job}
-use Rattle.matchdesk.specs.declared.Job.the-variants.{Rewrite as RewriteJob, Rest, Bytes, Check, Pages, Pack, Unpack}
+use Rattle.matchdesk.specs.declared.Job.the-variants.{Rewrite as RewriteJob, Rest, Bytes, Check, Pages, Pack, Unpack, Seal}
 
 -- ---- the words
 
@@ -49,7 +54,7 @@ sameBytes [] (y ∷ ys) = false
 sameBytes (x ∷ xs) [] = false
 sameBytes (x ∷ xs) (y ∷ ys) = eqb x y && sameBytes xs ys
 
--- `rewrite`, `fuller`, `rest`, `bytes`, `check`, `pages`, `pack` and `unpack`
+-- `rewrite`, `fuller`, `rest`, `bytes`, `check`, `pages`, `pack`, `unpack` and `seal`
 abbrev pub rewriteWord : List ℕ
 rewriteWord = 114 ∷ 101 ∷ 119 ∷ 114 ∷ 105 ∷ 116 ∷ 101 ∷ []
 
@@ -74,6 +79,9 @@ packWord = 112 ∷ 97 ∷ 99 ∷ 107 ∷ []
 abbrev pub unpackWord : List ℕ
 unpackWord = 117 ∷ 110 ∷ 112 ∷ 97 ∷ 99 ∷ 107 ∷ []
 
+abbrev pub sealWord : List ℕ
+sealWord = 115 ∷ 101 ∷ 97 ∷ 108 ∷ []
+
 unfoldable pub askedFor : List ℕ → Asked
 askedFor word =
     cond (sameBytes word rewriteWord) (For (RewriteJob Default))
@@ -83,7 +91,8 @@ askedFor word =
     (cond (sameBytes word checkWord) (For Check)
     (cond (sameBytes word pagesWord) (For Pages)
     (cond (sameBytes word packWord) (For Pack)
-    (cond (sameBytes word unpackWord) (For Unpack) Unknown)))))))
+    (cond (sameBytes word unpackWord) (For Unpack)
+    (cond (sameBytes word sealWord) (For Seal) Unknown))))))))
 
 -- `fx` and `i32`
 abbrev pub fxWord : List ℕ
@@ -118,6 +127,12 @@ abbrev pub answerBytes : Rewrite → List ℕ → Texts
 answerBytes (Written n report) new = onOutput new
 answerBytes (Refused x) new = onError (refusalText x)
 
+-- of the sealing check as of a check: `good`, or the line of the refusal
+abbrev pub sealedText : Sealing → List ℕ
+sealedText Sealable = goodText
+sealedText (RefusedSealing x) = refusalText x
+sealedText (Repeated w position x) = refusedText (repeatNumber w) position x
+
 -- the pages of an accepted image; or as of a refused one. There is always room for them
 abbrev pub laidText : Checked → List ℕ → List ℕ
 laidText Good pages = pages
@@ -142,6 +157,7 @@ programTexts Check input = onOutput (checkedText (siteAnswer input))
 programTexts Pages input = onOutput (laidText (siteAnswer input) (pagesText input))
 programTexts Pack input = resultTexts (packResult input)
 programTexts Unpack input = resultTexts (unpackResult input)
+programTexts Seal input = onOutput (sealedText (sealingAnswer input))
 
 -- Of an input past the longest image the program keeps the first 65,536 bytes and, of the others, only that there are some (src/input.rt). What it
 -- writes for what it kept is what each job writes for the whole input: an image so long is refused, whatever its bytes are, and of a packed form
@@ -160,6 +176,7 @@ workAfter Check input before = before
 workAfter Pages input before = before
 workAfter Pack input before = before
 workAfter Unpack input before = before
+workAfter Seal input before = before
 
 -- ---- the texts of `factor`
 

@@ -13,7 +13,7 @@ ghost use Rattle.listing.specs.Contracts.{TextWritten};
 ghost use Rattle.listing.specs.Text.{checkedText};
 ghost use Rattle.packed.specs.Operations.{lengthWritten};
 ghost use Rattle.pages.specs.Pages.{pagesText};
-ghost use Rattle.matchdesk.specs.Program.{askedFor, written, answerText, answerBytes, laidText, programTexts, workAfter};
+ghost use Rattle.matchdesk.specs.Program.{askedFor, written, answerText, answerBytes, sealedText, laidText, programTexts, workAfter};
 ghost use Rattle.matchdesk.specs.Contracts.{lengthOf, Room, Fits, faultText, Says};
 use cells::check::MAX_IMAGE;
 use cells::refusal::Checked;
@@ -28,9 +28,10 @@ use pages::Paged;
 use passes::Rewrite;
 use product::Chosen;
 use product::Product;
+use sealing::Sealing;
 
 // What the program can do: the text of a rewrite's answer, by a rule set, or of the rewrite until it rests; the rewritten image itself; the site
-// check; the image's pages; its packed form; and, of a packed form, the image.
+// check; the image's pages; its packed form; of a packed form, the image; and the sealing check.
 enum Job {
     Rewrite(RuleSet),
     Rest,
@@ -39,6 +40,7 @@ enum Job {
     Pages,
     Pack,
     Unpack,
+    Seal,
 }
 
 // What an argument asks for.
@@ -96,7 +98,7 @@ fn main() {
 fn usage() {
     io::write_all(
         STDERR_FILENO,
-        b"usage: matchdesk [rewrite | fuller | rest | bytes | check | pages | pack] < image\n       matchdesk unpack < packed\n       matchdesk factor (fx | i32) WANTED FACTOR\n",
+        b"usage: matchdesk [rewrite | fuller | rest | bytes | check | seal | pages | pack] < image\n       matchdesk unpack < packed\n       matchdesk factor (fx | i32) WANTED FACTOR\n",
     );
 }
 
@@ -180,6 +182,9 @@ fn job_of(word: &[u8]) -> Asked
     if check::same(word, b"unpack") {
         return Asked::For(Job::Unpack);
     }
+    if check::same(word, b"seal") {
+        return Asked::For(Job::Seal);
+    }
     Asked::Unknown
 }
 
@@ -219,6 +224,10 @@ fn run(job: Job, input: &[u8], work: &mut [u8], output: &mut [u8], error: &mut [
         },
         Job::Pack => answer_packing(packed::pack(input, output), error),
         Job::Unpack => answer_packing(packed::unpack(input, output), error),
+        Job::Seal => Said {
+            output: seal_line(sealing::sealing_check(input), output),
+            error: 0,
+        },
     }
 }
 
@@ -305,6 +314,26 @@ fn check_line(checked: Checked, text: &mut [u8]) -> usize
     ensures { λ r. ⌜ TextWritten (checkedText checked) (now (text .entry)) (now (text .exit)) r ⌝ }
 {
     length_of(listing::list_checked(checked, text))
+}
+
+// The line of the sealing check's answer.
+fn seal_line(sealing: Sealing, text: &mut [u8]) -> usize
+    requires { ⌜ 71 ≤ length (now text) ⌝ }
+    ensures { λ r. ⌜ Counts r (now (text .exit)) ⌝ }
+    ensures { λ r. ⌜ TextWritten (sealedText sealing) (now (text .entry)) (now (text .exit)) r ⌝ }
+{
+    match sealing {
+        Sealing::Good => check_line(Checked::Good, text),
+        Sealing::Refused(refusal) => check_line(Checked::Refused(refusal), text),
+        Sealing::Repeated(w, position, detail) => {
+            let numbers = Numbers {
+                number: sealing::repeat_number(w),
+                position,
+                detail,
+            };
+            length_of(listing::list_refused(numbers, text))
+        }
+    }
 }
 
 fn length_of(l: Listed) -> usize

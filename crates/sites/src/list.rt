@@ -6,7 +6,7 @@ use cells::walk::Part;
 ghost use mathlib.Core.Path.{_≡_};
 ghost use Prim.Native.Nat.{_/_, _≤_};
 ghost use lib.ListN.{length, take};
-ghost use Rattle.cells.specs.Check.{maxInstructions};
+ghost use Rattle.cells.specs.Check.{maxImage};
 ghost use Rattle.cells.specs.Cells.{cells, Put};
 ghost use Rattle.cells.specs.Lists.{one};
 ghost use Rattle.sites.specs.Sites.{siteBy, sitesOn};
@@ -40,7 +40,7 @@ fn one_if(b: bool) -> u32
 
 // How many of the first n are x.
 pub fn count(list: &[u32], n: usize, x: u32) -> u32
-    requires { ⌜ (n ≤ length (now list)) × (n ≤ maxInstructions) ⌝ }
+    requires { ⌜ (n ≤ length (now list)) × (n ≤ maxImage) ⌝ }
     ensures { λ r. ⌜ r ≡ countIn (take n (now (list .entry))) x ⌝ }
 {
     let mut found: u32 = 0;
@@ -54,7 +54,7 @@ pub fn count(list: &[u32], n: usize, x: u32) -> u32
 
 // Where a search for x among the first n ends: behind them or, where it is none of them, at once.
 pub fn search_end(list: &[u32], n: usize, x: u32) -> usize
-    requires { ⌜ (n ≤ length (now list)) × (n ≤ maxInstructions) ⌝ }
+    requires { ⌜ (n ≤ length (now list)) × (n ≤ maxImage) ⌝ }
     ensures { λ r. ⌜ r ≡ searchEnd (now (list .entry)) n x ⌝ }
 {
     if count(list, n, x) == 0 {

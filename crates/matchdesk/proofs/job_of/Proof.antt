@@ -4,7 +4,7 @@ use mathlib.Core.Bool.{false}
 use mathlib.Core.List.{List}
 use Prim.Native.Nat.{ℕ}
 use denote.Ref.{now}
-use Rattle.matchdesk.specs.Program.{sameBytes, rewriteWord, fullerWord, restWord, bytesWord, checkWord, pagesWord, packWord, unpackWord, askedFor}
+use Rattle.matchdesk.specs.Program.{sameBytes, rewriteWord, fullerWord, restWord, bytesWord, checkWord, pagesWord, packWord, unpackWord, sealWord, askedFor}
 use Rattle.matchdesk.proofs.Words.{same-test}
 use borrow.Author.Needs.{needs}
 use Rattle.matchdesk.proofs.job_of.Statement.{statement}
@@ -33,6 +33,9 @@ word₆ c = word₅ (c .before .before .before)
 abbrev word₇ : tie.Else7 → List ℕ
 word₇ c = word₆ (c .before .before .before)
 
+abbrev word₈ : tie.Else8 → List ℕ
+word₈ c = word₇ (c .before .before .before)
+
 not-rewrite : (c : tie.Else1) → sameBytes (word₁ c) rewriteWord ≡ false
 not-rewrite c = same-test _ _ rewriteWord (c .before .same .ensures) ∙ c .if1 .left
 
@@ -53,6 +56,9 @@ not-pages c = same-test _ _ pagesWord (c .before .same6 .ensures) ∙ c .if6 .le
 
 not-pack : (c : tie.Else7) → sameBytes (word₇ c) packWord ≡ false
 not-pack c = same-test _ _ packWord (c .before .same7 .ensures) ∙ c .if7 .left
+
+not-unpack : (c : tie.Else8) → sameBytes (word₈ c) unpackWord ≡ false
+not-unpack c = same-test _ _ unpackWord (c .before .same8 .ensures) ∙ c .if8 .left
 
 -- ---- the answers
 
@@ -116,16 +122,29 @@ is-unpack c =
     let d = e .before .before .before in
     rw (not-rewrite (d .before .before .before), not-fuller d, not-rest e, not-bytes f, not-check g, not-pages h, not-pack i, same-test _ _ unpackWord (c .before .same8 .ensures) ∙ c .if8 .taken)
 
-is-none : tie.Need-returns-9
+is-seal : tie.Need-returns-9
 unfolding askedFor
-is-none c =
-    let i = c .before .before .before in
+is-seal c =
+    let j = c .before .before .before in
+    let i = j .before .before .before in
     let h = i .before .before .before in
     let g = h .before .before .before in
     let f = g .before .before .before in
     let e = f .before .before .before in
     let d = e .before .before .before in
-    rw (not-rewrite (d .before .before .before), not-fuller d, not-rest e, not-bytes f, not-check g, not-pages h, not-pack i, same-test _ _ unpackWord (c .before .same8 .ensures) ∙ c .if8 .left)
+    rw (not-rewrite (d .before .before .before), not-fuller d, not-rest e, not-bytes f, not-check g, not-pages h, not-pack i, not-unpack j, same-test _ _ sealWord (c .before .same9 .ensures) ∙ c .if9 .taken)
+
+is-none : tie.Need-returns-10
+unfolding askedFor
+is-none c =
+    let j = c .before .before .before in
+    let i = j .before .before .before in
+    let h = i .before .before .before in
+    let g = h .before .before .before in
+    let f = g .before .before .before in
+    let e = f .before .before .before in
+    let d = e .before .before .before in
+    rw (not-rewrite (d .before .before .before), not-fuller d, not-rest e, not-bytes f, not-check g, not-pages h, not-pack i, not-unpack j, same-test _ _ sealWord (c .before .same9 .ensures) ∙ c .if9 .left)
 
 pub job-of-spec : {M : Type 1} → statement M
 job-of-spec =
@@ -155,4 +174,7 @@ job-of-spec =
     (λ c. search needs)
     (λ c κs. search needs)
     is-unpack
+    (λ c. search needs)
+    (λ c κs. search needs)
+    is-seal
     is-none)

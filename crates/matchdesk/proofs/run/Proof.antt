@@ -115,6 +115,19 @@ returns-7 c =
     let t = packing-said (unpackResult (now (s .args .input))) (unpack-short (now (s .args .input))) (omega (arith, s .pre .for-output)) (c .before .before .before .before .before .before .unpack .ensures .done) (record { output = v .0 .0; error-text = v .1 }) in
     ((t .0, v .0 .1), (rw e (t .1), rw e refl))
 
+returns-8 : tie.Need-returns-8
+unfolding programTexts workAfter
+returns-8 c =
+    let s = c .before .before .before .before .before .before .before .before .before .before .before in
+    let e = c .before .before .before .before .before .enum-told7 .given .1 in
+    let v = c .before .before .seal-line .ensures in (
+      (v .0, none-counted (now (s .args .error))),
+      (
+        rw (e, ← c .before .before .before .before .sealing-check .ensures .answer) (only-output (v .1) (now (s .args .error))),
+        rw e refl,
+      ),
+    )
+
 pub run-spec : {M : Type 1} → statement M
 run-spec =
     tie.close
@@ -132,6 +145,9 @@ run-spec =
     (λ c κs. search needs)
     (λ c κs. search needs)
     (λ c. search needs)
+    (λ c κs. search needs)
+    (λ c. search needs)
+    (λ c κs. search needs)
     (λ c κs. search needs)
     (λ c. search needs)
     (λ c κs. search needs)
@@ -158,4 +174,6 @@ run-spec =
     returns-6
     (λ c. search needs)
     (λ c. search needs)
-    returns-7)
+    returns-7
+    (λ c. search needs)
+    returns-8)

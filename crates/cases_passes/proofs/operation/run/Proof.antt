@@ -50,10 +50,16 @@ returns-10 c =
     let d = c .before .before .before .rewrite-until-rest .ensures in
     simp (c .of-rewrite5 .ensures, d .answer, d .bytes, c .before .before .before .before .before .enum-told10 .given .1) (refl, refl)
 
+returns-11 : tie.Need-returns-11
+returns-11 c = simp (c .of-sealing .ensures, c .before .sealing-check .ensures .answer, c .before .before .enum-told11 .given .1) (refl, refl)
+
 pub run-spec : {M : Type 1} → statement M
 run-spec =
     tie.close
     (tie.spec
+    (λ c. search needs)
+    (λ c κs. search needs)
+    (λ c κs. search needs)
     (λ c. search needs)
     (λ c κs. search needs)
     (λ c κs. search needs)
@@ -101,4 +107,5 @@ run-spec =
     (λ c. search needs)
     returns-9
     (λ c. search needs)
-    returns-10)
+    returns-10
+    returns-11)

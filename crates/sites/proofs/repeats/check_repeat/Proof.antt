@@ -10,7 +10,7 @@ use borrow.Author.Tests.{ne-eqb, eq-eqb}
 use denote.Ref.{now}
 use lib.Dec.{eqb}
 use lib.ListN.{length, getD, take}
-use Rattle.cells.specs.Check.{maxInstructions}
+use Rattle.cells.specs.Check.{maxImage}
 use Rattle.cells.specs.Cells.{Cell, cells}
 use Rattle.cells.specs.declared.refusal.Checked.{Checked}
 use Rattle.cells.specs.declared.refusal.Checked.the-variants.{Good, Refused}
@@ -54,7 +54,7 @@ module _ (l : tie.At-sites Inv-loop μ-loop Inv-sites μ-sites) where
   judge = judgeRepeat (start .args .p) (start .args .w) (start .args .position)
 
   -- they are among those listed
-  few : (l .sites .met ≤ length (now (start .args .sites))) × (l .sites .met ≤ maxInstructions)
+  few : (l .sites .met ≤ length (now (start .args .sites))) × (l .sites .met ≤ maxImage)
   few =
       let k = listed-few (start .pre) (l .sites .i) (l .sites .met) (l .sites .inv .2) in
       (omega (arith, k, start .pre .room), omega (arith, k, start .pre .few))

@@ -1,0 +1,16 @@
+-- `capi::matchdesk_sealing_check` meets its contract.
+use Rattle.capi.proofs.Replied.{sealing-replied}
+use borrow.Author.Needs.{needs}
+use Rattle.capi.proofs.matchdesk_sealing_check.Statement.{statement}
+use Rattle.capi.proofs.matchdesk_sealing_check.Tie as tie
+use Rattle.capi.proofs.matchdesk_sealing_check.Reads as reads
+use Rattle.capi.proofs.matchdesk_sealing_check.Lts as lts
+use Rattle.capi.proofs.reply_of_sealing.Reads as reply-of-sealing-reads
+use Rattle.sealing.proofs.sealing_check.Reads as sealing-check-reads
+
+returns : tie.Need-returns
+returns c = sealing-replied _ _ (c .reply-of-sealing .result) (c .before .sealing-check .ensures) (c .reply-of-sealing .ensures)
+
+pub matchdesk-sealing-check-spec : {M : Type 1} → statement M
+matchdesk-sealing-check-spec =
+    tie.close (tie.spec (λ c κs. search needs) (λ c κs. search needs) returns)

@@ -1,0 +1,9 @@
+pub mod Numbers
+pub mod Numbering
+pub mod Outcomes
+pub mod Kept
+pub mod LookedUp
+pub mod JoinedSealing
+pub mod Searching
+pub mod Gathering
+pub mod Checking
