@@ -1,7 +1,6 @@
 -- The walk over an image's functions: their numbers are gathered in a list, each function's behind those of the earlier ones, and what is said of a
 -- function by that list is what the definition says.
 use mathlib.Core.Path.{_≡_, refl, sym, _∙_, ap, ap₂}
-use mathlib.Core.Bool.{Bool}
 use mathlib.Core.List.{List, [], _∷_, _++_, append-nil, append-assoc}
 use Prim.Native.Nat.{ℕ, _+_, _-_, _*_, _/_, _≤_, _<_}
 use native.Mathlib.Nat.{le-refl}
@@ -9,9 +8,8 @@ use native.Mathlib.Omega.{arith}
 use lib.ListN.{length, take, drop, length-append}
 use lib.Seq.{take-at, drop-at}
 use Rattle.cells.specs.Cells.{cells, over, Put}
-use Rattle.cells.specs.Check.{maxImage}
 use Rattle.cells.specs.Functions.{Function, functionFrom, functions}
-use Rattle.cells.specs.Lists.{any, only}
+use Rattle.cells.specs.Lists.{any}
 use Rattle.cells.specs.Spans.{part, SpanAt}
 use Rattle.cells.specs.declared.walk.Part.the-variants.{Code}
 use Rattle.cells.specs.declared.walk.Span.{Span}
@@ -27,7 +25,7 @@ use Rattle.sealing.specs.Sealing.{numbersOn, standsIn, repeatedNumbers, 
 use Rattle.sealing.specs.Steps.{numbersOfAll, repeatAmong, gathered}
 use Rattle.sealing.specs.declared.Sealing.{Sealing}
 use Rattle.sealing.specs.declared.Sealing.the-variants.{Good, Repeated}
-use Rattle.sealing.proofs.Numbers.{by-list, stands-among, numbers-append}
+use Rattle.sealing.proofs.Numbers.{stands-among, numbers-append}
 
 -- at the head at, `position` functions are done and `met` numbers gathered
 pub record Gathering (w : Which) (s list₀ list : List ℕ) (at position met : ℕ) : Type 0 where

@@ -6,8 +6,7 @@ use native.Mathlib.Omega.{arith}
 use lib.ListN.{length}
 use Rattle.cells.specs.Cells.{cells}
 use Rattle.cells.specs.Check.{maxImage}
-use Rattle.cells.specs.Functions.{Function, functions}
-use Rattle.cells.specs.declared.refusal.Refusal.{Refusal}
+use Rattle.cells.specs.Functions.{functions}
 use Rattle.cells.specs.declared.refusal.Checked.{Checked}
 use Rattle.cells.specs.declared.refusal.Checked.the-variants.{Good as Passed, Refused as RefusedBy}
 use Rattle.cells.proofs.Answers.{refused-good, or-left, or-right}

@@ -23,7 +23,6 @@ use Rattle.passes.specs.Passes.{passAll, passBytes, passAnswer, passOutput}
 use Rattle.passes.specs.declared.Pass.{Pass}
 use Rattle.passes.specs.declared.Pass.the-variants.{Cleanup, CrystalFold, Both}
 use Rattle.passes.proofs.Done.{passOne, pass-map, bytes-again, bytes-functions, pass-done}
-use Rattle.rest.specs.Rounds.{restAnswer, restOutput}
 use Rattle.rest.proofs.Done.{either-rests}
 use Rattle.sealing.specs.Sealing.{standsIn, functionsWith}
 use Rattle.sealing.specs.Contracts.{InOneFunction, SealingPass}

@@ -1,21 +1,21 @@
 -- An event's number leads to one command: in an accepted function events and commands have the same numbers, and in a sealed image no other function
 -- has them.
 use mathlib.Core.Path.{_≡_, sym, _∙_}
-use mathlib.Core.Bool.{Bool, true, false}
+use mathlib.Core.Bool.{true}
 use mathlib.Core.List.{List, _∷_, _++_}
 use Prim.Native.Nat.{ℕ, _≤_}
 use native.Mathlib.Omega.{arith}
 use Rattle.cells.specs.Cells.{Cell, cells}
 use Rattle.cells.specs.Functions.{Function, functions}
-use Rattle.cells.specs.Lists.{one, any, tally, All}
+use Rattle.cells.specs.Lists.{one}
 use Rattle.cells.proofs.Facts.{by-test}
-use Rattle.cells.proofs.Lists.{any-yes, any-no, yes-any, no-any, tally-append, all-each, all-parts}
+use Rattle.cells.proofs.Lists.{any-yes, any-no, yes-any, tally-append, all-each, all-parts}
 use Rattle.sites.specs.Sites.{siteOf, eventSite, isSite, stands, times}
 use Rattle.sites.specs.declared.Site.{Site}
 use Rattle.sites.specs.declared.Which.{Which}
 use Rattle.sites.specs.declared.Which.the-variants.{Activation, Write}
 use Rattle.sites.proofs.SitesFit.{activation-sites, write-sites}
-use Rattle.image.specs.SiteCheck.{GoodSites, SitesPass}
+use Rattle.image.specs.SiteCheck.{GoodSites}
 use Rattle.sealing.specs.Sealing.{standsIn}
 use Rattle.sealing.specs.Contracts.{InOneFunction, SealingPass}
 use Rattle.sealing.specs.Claim.{EventsAlike, LookedUp}

@@ -4,7 +4,7 @@ use mathlib.Core.Path.{_≡_, refl, ap, sym, _∙_}
 use mathlib.Core.Logic.{_↔_}
 use mathlib.Core.Bool.{Bool, true, false}
 use mathlib.Core.List.{List, [], _∷_, _++_, append-assoc, append-nil}
-use Prim.Native.Nat.{ℕ, _≤_}
+use Prim.Native.Nat.{ℕ}
 use native.Mathlib.Omega.{arith}
 use lib.ListN.{length}
 use Rattle.cells.specs.Functions.{Function}
@@ -43,10 +43,7 @@ module _ (w : Which) where
       let t : one (standsIn w x f) ≡ 1 = rw (sym (sites-any (siteOf w) x (f .code)) ∙ o) in
       no-any (standsIn w x) earlier (omega (arith, t, a x, tally-append (standsIn w x) earlier (f ∷ [])))
 
-  -- what is said where a function's repeated numbers are known
-  abbrev said : List Function → List Function → List ℕ → Sealing
-  said through fs l = repeatedOr w (length through) l (numberingFrom w through fs)
-
+  -- a turn of the walk, where the function's repeated numbers are known
   turn : (earlier : List Function) (f : Function) (fs : List Function) {l : List ℕ} → repeatedNumbers w earlier f ≡ l
       → numberingFrom w earlier (f ∷ fs) ≡ repeatedOr w (length earlier) l (numberingFrom w (earlier ++ f ∷ []) fs)
   turn earlier f fs q = ap (λ (l : List ℕ). repeatedOr w (length earlier) l (numberingFrom w (earlier ++ f ∷ []) fs)) q

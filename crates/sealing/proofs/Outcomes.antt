@@ -1,5 +1,5 @@
 -- The sealing check's answer is one of four, each with what it means; the contract follows.
-use mathlib.Core.Path.{_≡_, refl, ap, ap₂, sym, _∙_}
+use mathlib.Core.Path.{_≡_, refl, ap, sym, _∙_}
 use mathlib.Core.Logic.{_↔_}
 use mathlib.Core.List.{List}
 use Prim.Native.Nat.{ℕ}
@@ -14,7 +14,7 @@ use Rattle.sites.specs.declared.Which.the-variants.{Activation, Write}
 use Rattle.image.specs.SiteCheck.{siteAnswer, SitesPass}
 use Rattle.image.proofs.Good.{site-good}
 use Rattle.sealing.specs.Sealing.{numberingAnswer, orNext, asChecked, sealingAnswer}
-use Rattle.sealing.specs.Contracts.{sealingNumbers, InOneFunction, SealingPass, FirstRepeat, SealingChecked}
+use Rattle.sealing.specs.Contracts.{InOneFunction, SealingPass, FirstRepeat, SealingChecked}
 use Rattle.sealing.specs.declared.Sealing.{Sealing}
 use Rattle.sealing.specs.declared.Sealing.the-variants.{Good, Refused, Repeated}
 use Rattle.sealing.proofs.Numbering.{numbering-good, numbering-repeats, by-numbering}

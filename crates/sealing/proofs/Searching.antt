@@ -1,5 +1,5 @@
 -- What the nested loops find: of a function's numbers, from i on, the first that is one of the earlier functions'.
-use mathlib.Core.Path.{_≡_, refl, ap}
+use mathlib.Core.Path.{_≡_, ap}
 use mathlib.Core.Bool.{true, false}
 use mathlib.Core.List.{List}
 use Prim.Native.Nat.{ℕ, _+_, _≤_, _<_}

@@ -3,10 +3,6 @@ use Rattle.capi.proofs.Replied.{sealing-replied}
 use borrow.Author.Needs.{needs}
 use Rattle.capi.proofs.matchdesk_sealing_check.Statement.{statement}
 use Rattle.capi.proofs.matchdesk_sealing_check.Tie as tie
-use Rattle.capi.proofs.matchdesk_sealing_check.Reads as reads
-use Rattle.capi.proofs.matchdesk_sealing_check.Lts as lts
-use Rattle.capi.proofs.reply_of_sealing.Reads as reply-of-sealing-reads
-use Rattle.sealing.proofs.sealing_check.Reads as sealing-check-reads
 
 returns : tie.Need-returns
 returns c = sealing-replied _ _ (c .reply-of-sealing .result) (c .before .sealing-check .ensures) (c .reply-of-sealing .ensures)

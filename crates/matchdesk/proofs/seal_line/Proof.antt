@@ -1,7 +1,6 @@
 -- `matchdesk::seal_line` meets its contract.
-use mathlib.Core.Path.{refl, ap}
+use mathlib.Core.Path.{refl}
 use native.Mathlib.Nat.{le-trans}
-use Rattle.listing.specs.Text.{refusedText}
 use Rattle.listing.proofs.Whole.{length-refused}
 use Rattle.matchdesk.proofs.Texts.{shown}
 use borrow.Author.Needs.{needs}

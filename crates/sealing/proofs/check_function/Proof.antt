@@ -1,8 +1,7 @@
 -- `sealing::check_function` meets its contract.
 use mathlib.Core.Path.{_≡_, refl, ap, sym, _∙_, subst}
 use mathlib.Core.Bool.{false}
-use mathlib.Core.List.{List}
-use Prim.Native.Nat.{ℕ, _+_, _-_, _≤_, _<_}
+use Prim.Native.Nat.{ℕ, _-_, _≤_, _<_}
 use native.Mathlib.Nat.{le-antisymm}
 use native.Mathlib.Omega.{arith}
 use borrow.Author.Tests.{ne-eqb, eq-eqb}
@@ -19,10 +18,6 @@ use Rattle.sealing.proofs.Searching.{search-ends, search-passes, search
 use borrow.Author.Needs.{needs}
 use Rattle.sealing.proofs.check_function.Statement.{statement}
 use Rattle.sealing.proofs.check_function.Tie as tie
-use Rattle.sealing.proofs.check_function.Reads as reads
-use Rattle.sealing.proofs.check_function.Lts as lts
-use Rattle.sites.proofs.list.search_end.Reads as search-end-reads
-use Rattle.sites.proofs.wide.Reads as wide-reads
 
 abbrev Inv-loop : tie.InvT-loop
 Inv-loop numbers met all w position answer₀ i x end earlier₀ answer earlier = (answer ≡ Good) × (earlier ≤ end) × (oneOf x (take earlier numbers) ≡ false)

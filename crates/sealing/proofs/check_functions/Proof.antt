@@ -1,19 +1,12 @@
 -- `sealing::check_functions` meets its contract.
-use mathlib.Core.Path.{_≡_, refl, ap, sym, _∙_}
 use Prim.Native.Nat.{_+_, _-_, _/_, _<_}
 use native.Mathlib.Omega.{arith}
 use denote.Ref.{now}
-use lib.ListN.{length}
 use Rattle.sealing.proofs.Gathering.{Gathering, gathering-start, gathering-end, own-room, all-few, next-long, gathering-next, gathering-refused}
 use Rattle.sealing.proofs.Checking.{not-good}
 use borrow.Author.Needs.{needs}
 use Rattle.sealing.proofs.check_functions.Statement.{statement}
 use Rattle.sealing.proofs.check_functions.Tie as tie
-use Rattle.sealing.proofs.check_functions.Reads as reads
-use Rattle.sealing.proofs.check_functions.Lts as lts
-use Rattle.cells.proofs.walk.function_at.Reads as function-at-reads
-use Rattle.sealing.proofs.check_function.Reads as check-function-reads
-use Rattle.sites.proofs.list.collect.Reads as collect-reads
 
 abbrev Inv-loop : tie.InvT-loop
 Inv-loop image w numbers₀ n at₀ position₀ met₀ numbers at position met = Gathering w image numbers₀ numbers at position met
