@@ -45,9 +45,9 @@
 
 /*
  * A call of any function but matchdesk_rewrite_until_rest takes no more stack than this, in bytes, whatever the image. Measured, not proved
- * (tests/cinterface/stack.c paints a stack and looks how far each call went): 21 KiB for matchdesk_cleanup and the two rewrites, 19 KiB for matchdesk_crystalfold, 17 KiB for
- * matchdesk_pages, 14 KiB for matchdesk_site_check, under 1 KiB for matchdesk_image_check, matchdesk_pack, matchdesk_unpack and the factors. The
- * rest is reserve. The frames have fixed sizes, and no function calls itself. What a thread needs for itself comes on top: one made with a stack
+ * (tests/cinterface/stack.c paints a stack and looks how far each call went): 30 KiB for matchdesk_sealing_check, 21 KiB for matchdesk_cleanup and
+ * the two rewrites, 19 KiB for matchdesk_crystalfold, 17 KiB for matchdesk_pages, 14 KiB for matchdesk_site_check, under 1 KiB for
+ * matchdesk_image_check, matchdesk_pack, matchdesk_unpack and the factors. The rest is reserve. The frames have fixed sizes, and no function calls itself. What a thread needs for itself comes on top: one made with a stack
  * of 28 KiB could call matchdesk_rewrite, one of 24 KiB could not.
  */
 #define MATCHDESK_STACK 32768

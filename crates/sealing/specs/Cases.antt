@@ -1,5 +1,5 @@
--- Worked: the sealing check on images written out by hand from document 02 (W13), with number, position and detail; that the older operations
--- accept what it refuses by 34 and 35; and images as sent and as rewritten.
+-- Worked: the sealing check on images written out by hand from document 02 (W13), with number, position and detail; in how many functions a number
+-- stands; that the older operations accept what it refuses by 34 and 35; and images as sent and as rewritten.
 use mathlib.Core.Path.{_≡_, refl}
 use mathlib.Core.Bool.{Bool, true}
 use mathlib.Core.List.{List, [], _∷_, _++_, map}
@@ -7,6 +7,7 @@ use mathlib.Core.Option.{Option, none, some}
 use Prim.Native.Nat.{ℕ}
 use lib.ListN.{length}
 use Rattle.cells.specs.Assembler.{cell, Head, Label, LoadI32, Jmp, Ret, RetNothing, site, noSite, StoreVarSited, MakeRecord, Borrow, Write as WriteEvent, function}
+use Rattle.cells.specs.Cells.{cells}
 use Rattle.cells.specs.Check.{instructionCheck, eventCheck, headCheck}
 use Rattle.cells.specs.Functions.{functions}
 use Rattle.cells.specs.Refusals.{numbered, numbersIn}
@@ -15,6 +16,8 @@ use Rattle.cells.specs.View.{view, loadCell}
 use Rattle.cells.specs.declared.refusal.Numbers.{Numbers}
 use Rattle.sites.specs.Sites.{siteOf, eventSite, siteBy}
 use Rattle.sites.specs.Validators.{repeatAnswer, activationAnswer, judgeBy}
+use Rattle.sites.specs.declared.Which.{Which}
+use Rattle.sites.specs.declared.Which.the-variants.{Activation, Write}
 use Rattle.cleanup.specs.Cleanup.{cleanFunction, cleanCode, cleanEvents, cleanCount}
 use Rattle.crystalfold.specs.Rules.{defaultTable, defaultRules, fullerTable, fullerRules}
 use Rattle.crystalfold.specs.Fold.{note}
@@ -26,7 +29,7 @@ use Rattle.passes.specs.Contracts.{isWritten}
 use Rattle.passes.specs.Passes.{passBytes, passCount, passCheck, passAnswer}
 use Rattle.passes.specs.declared.Pass.the-variants.{Both}
 use Rattle.rest.specs.Rounds.{restBytes}
-use Rattle.sealing.specs.Sealing.{numberingAnswer, sealingAnswer}
+use Rattle.sealing.specs.Sealing.{functionsWith, numberingAnswer, sealingAnswer}
 use Rattle.sealing.specs.Contracts.{sealingReply}
 
 -- ---- functions
@@ -150,6 +153,34 @@ cases =
 pub cases-hold : map (λ (c : SealingCase). record { image = c .image; reply = sealingReply (c .image) }) cases ≡ cases
 unfolding functions instructionCheck eventCheck headCheck rows classOf siteOf eventSite siteBy repeatAnswer activationAnswer judgeBy imageAnswer siteAnswer numberingAnswer sealingAnswer
 cases-hold = refl
+
+-- ---- in how many functions a number stands, and what "one function only" counts
+
+pub record StandsCase : Type 0 where
+  pub image : List ℕ
+  pub kind : Which
+  pub number : ℕ
+  pub functionsHaving : ℕ
+
+abbrev pub having : List ℕ → Which → ℕ → ℕ → StandsCase
+having s w x n = record { image = s; kind = w; number = x; functionsHaving = n }
+
+abbrev pub standing : List StandsCase
+standing =
+    -- as an activation number, also of an unreachable command; as a write number of either command; one that stands nowhere
+    having (activated 5 ++ unreachable 5 ++ made 5 ++ hollow) Activation 5 2
+    ∷ having (activated 5 ++ unreachable 5 ++ made 5 ++ hollow) Write 5 1
+    ∷ having (activated 5 ++ unreachable 5 ++ made 5 ++ hollow) Activation 6 0
+    ∷ having (stored 9 ++ made 9 ++ both 1 9) Write 9 3
+    ∷ having (unsited ++ activated 0) Activation 0 1
+    -- a function counts once, however often the number stands in it
+    ∷ having (function (MakeRecord (site 9) ∷ MakeRecord (site 9) ∷ []) []) Write 9 1
+    ∷ having [] Write 0 0
+    ∷ []
+
+pub standing-hold : map (λ (c : StandsCase). having (c .image) (c .kind) (c .number) (functionsWith (c .kind) (c .number) (functions (cells (c .image))))) standing ≡ standing
+unfolding functions siteOf
+standing-hold = refl
 
 -- ---- "The older checks and rewrites keep accepting what they did"
 
