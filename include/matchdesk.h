@@ -119,7 +119,7 @@ size_t matchdesk_sealing_check(const unsigned char *image, size_t image_length, 
  *              more than image_length         changed if it isn't 0               behind it every byte as it was
  *   refusal    position, as above; 0 for 5    detail, as above; 0 for 5           every byte as it was
  *
- * The image is only read. What is written passes both checks.
+ * The image is only read. What is written passes the image check and the site check, and the sealing check if the image does.
  */
 
 /* Cleanup of every function. */

@@ -1,6 +1,8 @@
 //! The images of the benchmark, each as close to 65,536 bytes as it goes.
 
 use differential::cells::{self, Cell, CELL, MAX_EVENTS, MAX_IMAGE, MAX_INSTRS};
+#[cfg(feature = "library")]
+use differential::generate::one_function;
 use differential::generate::{
     any_function, borrow, computed, jmp, label, load_i32, make_record, ret, store_var, write, Shape,
 };
@@ -11,7 +13,7 @@ use differential::random::Random;
 
 pub fn rows() -> Vec<(&'static str, Vec<u8>)> {
     let rows = vec![
-        ("loads", instrs(|at| leaves::load(at % 256, value(at)))),
+        ("loads", loads()),
         ("loads, 1,024 registers", instrs(|at| leaves::load(at % 1024, value(at)))),
         ("overwritten loads", instrs(|at| load_i32(1, at as i32))),
         ("folds", instrs(folds)),
@@ -50,6 +52,16 @@ pub fn fill(mut function: impl FnMut(usize) -> (Vec<Cell>, Vec<Cell>)) -> Vec<u8
         cells::push_function(&mut image, name, &instrs, &events);
         name += 1;
     }
+}
+
+/// LoadI32 r1 5, AddI32 r2 r1 r1, Ret r2 in function 7: document 01's example.
+#[cfg(feature = "library")]
+pub fn printed_example() -> Vec<u8> {
+    one_function(&[load_i32(1, 5), computed(byte::AddI32, 2, 1, 1), ret(Some(2))], &[])
+}
+
+pub fn loads() -> Vec<u8> {
+    instrs(|at| leaves::load(at % 256, value(at)))
 }
 
 /// Functions of instructions alone, the first as long as a function may be.
@@ -166,7 +178,7 @@ fn write_sites() -> Vec<u8> {
 }
 
 /// Random functions of 60 instructions, good sites and all commands among them.
-fn mixed() -> Vec<u8> {
+pub fn mixed() -> Vec<u8> {
     let mut random = Random::new(1);
     let shape =
         Shape { instrs: 60, sites: 10, control: 10, actions: 20, misfits: 15, one_place: true };

@@ -1,11 +1,13 @@
 //! Times the original's `run_default_opt_passes` and, with the feature `library`,
 //! the proved rewrites and pages on the same images, in one process; the proved packed form beside
-//! the image check; and the proved factors.
+//! the image check; the proved sealing check beside the site check; and the proved factors.
 
 mod factors;
 mod images;
 #[cfg(feature = "library")]
 mod packed;
+#[cfg(feature = "library")]
+mod sealing;
 #[cfg(feature = "library")]
 mod search;
 
@@ -20,8 +22,9 @@ use std::time::{Duration, Instant};
 /// How long one figure is measured, unless `--milliseconds` says otherwise.
 const TIME: Duration = Duration::from_millis(400);
 
-const USAGE: &str =
-    "usage: [--milliseconds N], or with the library: --packed [--milliseconds N], --search SEED SECONDS";
+const USAGE: &str = "\
+usage: [--milliseconds N], or with the library: --packed [--milliseconds N],
+       --sealing [--milliseconds N], --search [sealing] SEED SECONDS";
 
 fn wrong_use() -> ! {
     eprintln!("{USAGE}");
@@ -37,18 +40,28 @@ fn main() -> ExitCode {
             true
         }
         #[cfg(feature = "library")]
-        ["--search", seed, seconds] => {
-            match (seed.parse(), seconds.parse()) {
-                (Ok(seed), Ok(seconds)) => search::run(seed, Duration::from_secs(seconds)),
-                _ => wrong_use(),
-            }
-            true
-        }
+        ["--search", seed, seconds] => search(search::rewrite_took, seed, seconds),
+        #[cfg(feature = "library")]
+        ["--search", "sealing", seed, seconds] => search(search::sealing_took, seed, seconds),
         #[cfg(feature = "library")]
         ["--packed", rest @ ..] => packed::rows(time(rest)),
+        #[cfg(feature = "library")]
+        ["--sealing", rest @ ..] => {
+            sealing::rows(time(rest));
+            true
+        }
         words => all(time(words)),
     };
     ExitCode::from(!hold as u8)
+}
+
+#[cfg(feature = "library")]
+fn search(took: search::Took, seed: &str, seconds: &str) -> bool {
+    match (seed.parse(), seconds.parse()) {
+        (Ok(seed), Ok(seconds)) => search::run(seed, Duration::from_secs(seconds), took),
+        _ => wrong_use(),
+    }
+    true
 }
 
 fn time(words: &[&str]) -> Duration {
@@ -99,6 +112,8 @@ fn all(time: Duration) -> bool {
     println!("ratio: our time divided by the original's, without and with decoding and encoding; `fuller` is the time of the fuller rewrite, `rest` that of the rewrite until it rests, `pages` that of the pages");
     #[cfg(feature = "library")]
     let hold = packed::rows(time);
+    #[cfg(feature = "library")]
+    sealing::rows(time);
     #[cfg(not(feature = "library"))]
     let hold = true;
     factors::rows(time);
@@ -218,4 +233,33 @@ fn measure<P, R>(
         drop(result);
     }
     fastest
+}
+
+/// How many cells a round has at least: a smaller image is taken so many times.
+#[cfg(feature = "library")]
+const CELLS: usize = 4096;
+
+/// The times of one call of each on an image in the fastest round, in ns. A round is several calls of
+/// one, if the image is small.
+#[cfg(feature = "library")]
+fn by_turns<const N: usize>(
+    time: Duration,
+    image: &[u8],
+    mut calls: [&mut dyn FnMut(); N],
+) -> [f64; N] {
+    let times = CELLS.div_ceil((image.len() / CELL).max(1));
+    let mut fastest = [u128::MAX; N];
+    let mut rounds = 0;
+    let deadline = Instant::now() + time * N as u32;
+    while rounds < 10 || Instant::now() < deadline {
+        for (call, fastest) in calls.iter_mut().zip(&mut fastest) {
+            let start = Instant::now();
+            for _ in 0..times {
+                call();
+            }
+            *fastest = start.elapsed().as_nanos().min(*fastest);
+        }
+        rounds += 1;
+    }
+    fastest.map(|fastest| fastest as f64 / times as f64)
 }

@@ -1,22 +1,19 @@
 //! Times the packed form (document 02, W8): `pack` and `unpack` beside the image check of the
 //! same image.
 
-use crate::{images, output, APART};
+use crate::{by_turns, images, output, APART};
 use differential::answers::{Operations, Reply};
 use differential::cells::{self, MAX_EVENTS, MAX_INSTRS};
-use differential::generate::{self, computed, event, filled, label, load_i32, ret, store_var};
+use differential::generate::{self, event, filled, label, load_i32, store_var};
 use differential::legacy_lowering::byte;
 use differential::library::Library;
 use differential::random::Random;
 use differential::{model, packed};
 use std::hint::black_box;
-use std::time::{Duration, Instant};
+use std::time::Duration;
 
 /// How many times as long as the image check each of the two may take.
 const MOST: f64 = 1.5;
-
-/// How many cells a round has at least: a smaller image is taken so many times.
-const CELLS: usize = 4096;
 
 const LAST_COMMAND: u8 = byte::TupleGet;
 
@@ -34,7 +31,7 @@ pub fn rows(time: Duration) -> bool {
     images.push(("every command", every_command()));
     images.push(("StoreVar and event each", stores_with_events()));
     images.push(("each command once", each_command_once()));
-    images.push(("printed example", printed_example()));
+    images.push(("printed example", images::printed_example()));
     let one = generate::one_function;
     let sited = store_var(1, Some(1), Some(1));
     let borrow = event(0, Some(1), Some(1));
@@ -66,11 +63,6 @@ pub fn rows(time: Duration) -> bool {
     let verdicts = ["pack", "unpack"].into_iter().zip(largest).map(verdict);
     // Both are said, whether the first holds or not.
     verdicts.fold(true, |all, holds| all & holds)
-}
-
-/// LoadI32 r1 5, AddI32 r2 r1 r1, Ret r2 in function 7: document 01's example.
-fn printed_example() -> Vec<u8> {
-    generate::one_function(&[load_i32(1, 5), computed(byte::AddI32, 2, 1, 1), ret(Some(2))], &[])
 }
 
 fn each_command_once() -> Vec<u8> {
@@ -144,8 +136,6 @@ fn row(time: Duration, name: &str, image: &[u8]) -> [f64; 2] {
     assert_eq!(written(Library.unpack(&packed, to_unpack)), image.len(), "{name}");
     assert_eq!(to_unpack, image, "{name}");
 
-    let cells = image.len() / cells::CELL;
-    let times = CELLS.div_ceil(cells.max(1));
     let mut check = || assert_eq!(Library.image_check(black_box(image)), Ok(()));
     let mut pack = || {
         written(Library.pack(black_box(image), to_pack));
@@ -155,33 +145,12 @@ fn row(time: Duration, name: &str, image: &[u8]) -> [f64; 2] {
         written(Library.unpack(black_box(&packed), to_unpack));
         black_box(&mut *to_unpack);
     };
-    let [check, pack, unpack] = by_turns(time, times, [&mut check, &mut pack, &mut unpack]);
+    let [check, pack, unpack] = by_turns(time, image, [&mut check, &mut pack, &mut unpack]);
     let ratios = [pack / check, unpack / check];
+    let cells = image.len() / cells::CELL;
     println!(
         "{name:24} {cells:>6} {check:>12.1} {pack:>12.1} {unpack:>12.1} {:>9.2} {:>9.2}",
         ratios[0], ratios[1]
     );
     ratios
-}
-
-/// The times of one call of each in the fastest round, in ns. A round is so many calls of one.
-fn by_turns<const N: usize>(
-    time: Duration,
-    times: usize,
-    mut calls: [&mut dyn FnMut(); N],
-) -> [f64; N] {
-    let mut fastest = [u128::MAX; N];
-    let mut rounds = 0;
-    let deadline = Instant::now() + time * N as u32;
-    while rounds < 10 || Instant::now() < deadline {
-        for (call, fastest) in calls.iter_mut().zip(&mut fastest) {
-            let start = Instant::now();
-            for _ in 0..times {
-                call();
-            }
-            *fastest = start.elapsed().as_nanos().min(*fastest);
-        }
-        rounds += 1;
-    }
-    fastest.map(|fastest| fastest as f64 / times as f64)
 }

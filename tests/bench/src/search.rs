@@ -1,5 +1,5 @@
-//! A search for images on which the proved rewrite takes long: plans of a few functions are
-//! made at random and changed step by step, and a change that takes longer stays.
+//! A search for images on which the proved rewrite, or the proved sealing check, takes long: plans of
+//! a few functions are made at random and changed step by step, and a change that takes longer stays.
 
 use differential::answers::Operations;
 use differential::cells::{self, Cell, CELL, MAX_EVENTS, MAX_IMAGE, MAX_INSTRS};
@@ -8,6 +8,7 @@ use differential::generate::{
 };
 use differential::legacy_lowering::byte;
 use differential::library::Library;
+use differential::numbered;
 use differential::random::Random;
 use std::hint::black_box;
 use std::time::{Duration, Instant};
@@ -27,8 +28,11 @@ struct Plan {
     paired: bool,
 }
 
+/// How long an image takes.
+pub type Took = fn(&[u8]) -> Duration;
+
 /// Runs for the time given and prints the slowest image's plan and time.
-pub fn run(seed: u64, time: Duration) {
+pub fn run(seed: u64, time: Duration, took: Took) {
     let mut random = Random::new(seed);
     let deadline = Instant::now() + time;
     let (mut slowest, mut tried, mut best) = (Duration::ZERO, 0, Vec::new());
@@ -118,15 +122,28 @@ fn function(plan: &Plan, left: usize) -> (Vec<Cell>, Vec<Cell>) {
     (instrs, events)
 }
 
-/// The fastest of a few calls, refused or not.
-fn took(image: &[u8]) -> Duration {
+/// Of the default rewrite, refused or not.
+pub fn rewrite_took(image: &[u8]) -> Duration {
     let mut out = vec![0; MAX_IMAGE];
-    (0..5)
-        .map(|_| {
-            let start = Instant::now();
-            let _ = black_box(Library.rewrite(black_box(image), &mut out));
-            start.elapsed()
-        })
-        .min()
-        .unwrap()
+    fastest(|| {
+        let _ = black_box(Library.rewrite(black_box(image), &mut out));
+    })
+}
+
+/// Of the sealing check, the numbers of each function being its own.
+pub fn sealing_took(image: &[u8]) -> Duration {
+    let image = &numbered::apart(image);
+    fastest(|| {
+        let _ = black_box(Library.sealing_check(black_box(image)));
+    })
+}
+
+/// Of a few calls.
+fn fastest(mut call: impl FnMut()) -> Duration {
+    let one = |_| {
+        let start = Instant::now();
+        call();
+        start.elapsed()
+    };
+    (0..5).map(one).min().unwrap()
 }

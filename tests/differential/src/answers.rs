@@ -97,6 +97,8 @@ pub trait Operations: Sync {
     fn name(&self) -> &'static str;
     fn image_check(&self, image: &[u8]) -> Checked;
     fn site_check(&self, image: &[u8]) -> Checked;
+    /// Document 02's sealing check, which the Rust doesn't have.
+    fn sealing_check(&self, image: &[u8]) -> Checked;
     fn cleanup(&self, image: &[u8], out: &mut [u8]) -> Rewritten;
     fn crystalfold(&self, image: &[u8], out: &mut [u8]) -> Rewritten;
     fn rewrite(&self, image: &[u8], out: &mut [u8]) -> Rewritten;

@@ -76,6 +76,17 @@ pub fn functions(image: &[u8]) -> impl Iterator<Item = Function<'_>> {
     })
 }
 
+/// The same, each as an image of its own.
+pub fn alone(image: &[u8]) -> impl Iterator<Item = &[u8]> {
+    let mut rest = image;
+    functions(image).map(move |function| {
+        let cells = 1 + function.instrs.len() + function.events.len();
+        let (alone, after) = rest.split_at(CELL * cells);
+        rest = after;
+        alone
+    })
+}
+
 /// Adds a function at an image's end.
 pub fn push_function(image: &mut Vec<u8>, name: u16, instrs: &[Cell], events: &[Cell]) {
     image.extend_from_slice(&head(name, instrs.len(), events.len()));

@@ -13,6 +13,7 @@ use crate::original::{self, Answers};
 use crate::packed;
 use crate::pages;
 use crate::rest::Rested;
+use crate::sealing::Numbers;
 use crate::table;
 use std::collections::HashMap;
 
@@ -37,6 +38,8 @@ pub struct Expected {
     pub(crate) pages: Option<Vec<u8>>,
     /// Its packed form by the model, where it passes the image check: the original has none.
     pub(crate) packed: Option<Vec<u8>>,
+    /// Its numbers by the model, where it passes the site check.
+    pub(crate) numbers: Option<Numbers>,
 }
 
 pub(crate) fn difference(
@@ -49,8 +52,12 @@ pub(crate) fn difference(
 
 /// Asks the original about an image that has passed the image check.
 pub(crate) fn ask_original(image: &[u8]) -> Result<Answers, Difference> {
-    let answers = std::panic::catch_unwind(|| original::answers(image))
-        .unwrap_or_else(|_| Err("a panic".into()));
+    ask(image, original::answers)
+}
+
+fn ask<T>(image: &[u8], about: fn(&[u8]) -> Result<T, String>) -> Result<T, Difference> {
+    let answers =
+        std::panic::catch_unwind(|| about(image)).unwrap_or_else(|_| Err("a panic".into()));
     answers.map_err(|got| Difference {
         what: "the original".into(),
         expected: "an answer with a number".into(),
@@ -79,6 +86,7 @@ pub fn expected(image: &[u8]) -> Result<Expected, Difference> {
             fuller: None,
             pages: None,
             packed: None,
+            numbers: None,
         });
     }
     let original = ask_original(image)?;
@@ -88,8 +96,9 @@ pub fn expected(image: &[u8]) -> Result<Expected, Difference> {
         (bytes, Success { length, num_rewrites, changed: num_rewrites > 0 })
     });
     let pages = site_check.is_ok().then(|| pages::pages(image));
+    let numbers = site_check.is_ok().then(|| Numbers::of(image));
     let (original, packed) = (Some(original), Some(packed::pack(image)));
-    let expected = Expected { image_check, site_check, original, fuller, pages, packed };
+    let expected = Expected { image_check, site_check, original, fuller, pages, packed, numbers };
     let original = expected.original.as_ref().unwrap();
 
     // The original refuses exactly if the site check does, and as it may.
@@ -107,6 +116,7 @@ pub fn expected(image: &[u8]) -> Result<Expected, Difference> {
     if let Some(pages) = &expected.pages {
         read_back(image, pages)?;
     }
+    expected.check_sealing_by_the_original(image)?;
     Ok(expected)
 }
 
@@ -121,6 +131,17 @@ impl Expected {
 
     pub fn site_check(&self) -> Checked {
         self.site_check
+    }
+
+    pub fn sealing_check(&self) -> Checked {
+        self.site_check?;
+        // Where the site check accepts, there are numbers.
+        self.numbers().unwrap().check()
+    }
+
+    /// The numbers of its commands, where the image passes the site check.
+    pub fn numbers(&self) -> Option<&Numbers> {
+        self.numbers.as_ref()
     }
 
     /// What the original answers, where the image passes the image check.
@@ -188,16 +209,9 @@ impl Expected {
         image: &[u8],
         out: &[u8],
     ) -> Result<(), Difference> {
-        let answer = subject.image_check(image);
-        if answer != self.image_check {
-            let expected = checked_text(&self.image_check);
-            return difference("image check", expected, checked_text(&answer));
-        }
-        let answer = subject.site_check(image);
-        if answer != self.site_check {
-            let expected = checked_text(&self.site_check);
-            return difference("site check", expected, checked_text(&answer));
-        }
+        check_same("image check", self.image_check, subject.image_check(image))?;
+        check_same("site check", self.site_check, subject.site_check(image))?;
+        check_same("sealing check", self.sealing_check(), subject.sealing_check(image))?;
         OPERATIONS
             .iter()
             .try_for_each(|&operation| self.check_operation(subject, operation, image, out))
@@ -319,6 +333,15 @@ impl Expected {
         check_written(&PACKED, around, |lent| self.pack(lent), |out| subject.pack(image, out))
     }
 
+    /// Holds the sealing check against the original's own validators, where the image passes them.
+    pub(crate) fn check_sealing_by_the_original(&self, image: &[u8]) -> Result<(), Difference> {
+        if !self.accepted() {
+            return Ok(());
+        }
+        let original = ask(image, original::sealing_check)?;
+        check_same("sealing check by the original", original, self.sealing_check())
+    }
+
     /// Holds an answer to the fuller rewrite against the original alone, whatever the commands that
     /// only the fuller one folds give. It refuses as the default does. Its loads in place of such
     /// commands are put into what the original's cleanup writes; what the original's CrystalFold
@@ -364,6 +387,13 @@ impl Expected {
         }
         Ok(())
     }
+}
+
+fn check_same(what: &str, expected: Checked, answer: Checked) -> Result<(), Difference> {
+    if answer == expected {
+        return Ok(());
+    }
+    difference(what, checked_text(&expected), checked_text(&answer))
 }
 
 /// Bytes before and behind a lent buffer that nobody may write.

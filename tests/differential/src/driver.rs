@@ -7,11 +7,13 @@ use crate::factors::{self, Leaf, LEAVES, TURNS};
 use crate::forms::{self, Forms};
 use crate::generate::{self, Exhaustive, Pairs, NO_OUTPUT};
 use crate::joined::{self, Part};
+use crate::numbered;
 use crate::packed::{self, Unpacking, FAULTS};
 use crate::pages::{self, SHAPES};
 use crate::random::{mix, Random};
 use crate::rest::{self, ROUNDS};
 use crate::runs::{self, Outside};
+use crate::sealing::{self, Numbers, CASES};
 use crate::shrink::{shrink, shrink_by};
 use std::sync::atomic::{AtomicBool, Ordering};
 use std::sync::Mutex;
@@ -102,6 +104,37 @@ impl Rests {
     }
 }
 
+/// What occurred in the sealing checks that were compared.
+#[derive(Debug, Default)]
+pub struct Sealings {
+    /// Images that pass the site check, by what their answers turn on.
+    pub cases: [u64; CASES.len()],
+    /// Refused ones that the default rewrite makes good.
+    pub gone: u64,
+}
+
+impl Sealings {
+    fn count(&mut self, part: &Part) {
+        let Part { expected, .. } = part;
+        let default = expected.written(Operation::Rewrite);
+        let (Some(numbers), Some(default)) = (expected.numbers(), default) else {
+            return;
+        };
+        for (count, (_, case)) in self.cases.iter_mut().zip(CASES) {
+            *count += case(numbers) as u64;
+        }
+        let gone = numbers.check().is_err() && Numbers::of(default).check().is_ok();
+        self.gone += gone as u64;
+    }
+
+    fn add(&mut self, other: &Sealings) {
+        for (sum, count) in self.cases.iter_mut().zip(other.cases) {
+            *sum += count;
+        }
+        self.gone += other.gone;
+    }
+}
+
 /// What occurred in the factors that were compared.
 #[derive(Debug, Default)]
 pub struct Factors {
@@ -158,7 +191,8 @@ impl Occurred {
 
 /// What was lent: an output, or a buffer for the pages, for the packed form or for what is unpacked;
 /// its length, less the image's or the joined one's, or less that of what is written; or a number for
-/// a factor. Or a law, with the place at which it ends a packed form; or one of what rests.
+/// a factor. Or a law, with the place at which it ends a packed form; or one of what rests, or of the
+/// sealing check.
 #[derive(Debug, Clone, Copy, PartialEq, Eq)]
 pub enum Lent {
     Output(isize),
@@ -167,6 +201,7 @@ pub enum Lent {
     Unpacked(isize),
     Law(usize),
     RestLaw,
+    SealingLaw,
     Number,
 }
 
@@ -187,6 +222,7 @@ struct Worker<'a> {
     /// How often each refusal number was the answer.
     refusals: [u64; 27],
     rests: Rests,
+    sealings: Sealings,
     occurred: Occurred,
     packing: Packing,
     factors: Factors,
@@ -242,11 +278,19 @@ impl Worker<'_> {
                 return self.found(group, subject.name(), &[image], Lent::RestLaw, difference);
             }
         }
+        // Of one function the answer to the site check says all.
+        let several = expected.accepted() && cells::functions(image).nth(1).is_some();
+        for subject in self.subjects.iter().filter(|_| several) {
+            if let Err(difference) = sealing::laws(*subject, images) {
+                return self.found(group, subject.name(), images, Lent::SealingLaw, difference);
+            }
+        }
         let buffers = two_buffers(&mut self.random, expected.pages_length(image));
         self.pages(group, part, images, &buffers);
         self.packed(group, part, images);
         self.occurred.count(part);
         self.rests.count(part);
+        self.sealings.count(part);
         if let Err(refusal) = expected.site_check() {
             self.refusals[refusal.number as usize] += 1;
         }
@@ -540,7 +584,7 @@ impl Worker<'_> {
     /// One round over the other random groups.
     fn round(&mut self) {
         for _ in 0..150 {
-            let image = generate::any_image(&mut self.random);
+            let image = numbered::any_image(&mut self.random);
             self.image("random", &image, &[0, 40]);
         }
         for _ in 0..100 {
@@ -585,6 +629,22 @@ impl Worker<'_> {
             let mut image = generate::restless(&mut self.random);
             generate::damage(&mut self.random, &mut image);
             self.image("rests", &image, &[0, -1]);
+        }
+    }
+
+    /// One round over random images of several functions with numbers.
+    fn numbered_round(&mut self) {
+        for _ in 0..60 {
+            let image = numbered::any_numbered(&mut self.random);
+            self.image("numbered", &image, &[0]);
+        }
+        for _ in 0..8 {
+            let image = numbered::damaged(&mut self.random);
+            self.image("numbered", &image, &[0]);
+        }
+        if self.random.chance(20) {
+            let image = numbered::any_many(&mut self.random);
+            self.image("many numbered", &image, &[0]);
         }
     }
 }
@@ -671,6 +731,7 @@ pub struct Outcome {
     /// How often each refusal number was the answer.
     pub refusals: [u64; 27],
     pub rests: Rests,
+    pub sealings: Sealings,
     pub occurred: Occurred,
     pub packing: Packing,
     pub factors: Factors,
@@ -693,6 +754,8 @@ pub enum Groups {
     Packed,
     /// Those in which images take up to three rounds, and a few others.
     Rest,
+    /// Those in which functions have numbers, and a few others.
+    Numbers,
 }
 
 /// The exhaustive groups as a whole, then rounds of the random ones for the rest of
@@ -710,11 +773,12 @@ pub fn compare(
         Groups::All => generate::exhaustive(),
         Groups::Packed => generate::packed(),
         Groups::Rest => generate::rests(),
+        Groups::Numbers => generate::numbers(),
         Groups::Joined | Groups::Factors => Vec::new(),
     };
     let forms = match groups {
         Groups::All | Groups::Packed => forms::exhaustive(),
-        Groups::Joined | Groups::Factors | Groups::Rest => Vec::new(),
+        Groups::Joined | Groups::Factors | Groups::Rest | Groups::Numbers => Vec::new(),
     };
     let pairs = generate::joined_short();
     let stop = AtomicBool::new(false);
@@ -728,6 +792,7 @@ pub fn compare(
                 counts: Vec::new(),
                 refusals: [0; 27],
                 rests: Rests::default(),
+                sealings: Sealings::default(),
                 occurred: Occurred::default(),
                 packing: Packing::default(),
                 factors: Factors::default(),
@@ -764,6 +829,9 @@ pub fn compare(
                     if one_of(&[Groups::Rest]) {
                         worker.rest_round();
                     }
+                    if one_of(&[Groups::Numbers]) {
+                        worker.numbered_round();
+                    }
                     if one_of(&[Groups::Joined]) {
                         worker.joined_round();
                     }
@@ -782,6 +850,7 @@ pub fn compare(
         counts: Vec::new(),
         refusals: [0; 27],
         rests: Rests::default(),
+        sealings: Sealings::default(),
         occurred: Occurred::default(),
         packing: Packing::default(),
         factors: Factors::default(),
@@ -805,6 +874,7 @@ pub fn compare(
             *sum += count;
         }
         outcome.rests.add(&worker.rests);
+        outcome.sealings.add(&worker.sealings);
         outcome.occurred.add(&worker.occurred);
         outcome.packing.add(&worker.packing);
         outcome.factors.add(&worker.factors);
@@ -915,6 +985,10 @@ fn shown(subjects: &Subjects, found: &Found, images: &[Vec<u8>]) -> Option<Diffe
         }
         Lent::Law(cut) => packed::laws(*subject, image, cut),
         Lent::RestLaw => rest::laws(*subject, image),
+        Lent::SealingLaw => {
+            let images: Vec<&[u8]> = images.iter().map(Vec::as_slice).collect();
+            sealing::laws(*subject, &images)
+        }
         Lent::Unpacked(_) | Lent::Number => return None,
     };
     differs.err()

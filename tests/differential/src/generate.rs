@@ -6,6 +6,7 @@ use crate::cells::{self, Cell, CELL, MAX_EVENTS, MAX_IMAGE, MAX_INSTRS, REGISTER
 use crate::codec::Form;
 use crate::leaves::{self, Const};
 use crate::legacy_lowering::{byte, COMMANDS};
+use crate::numbered;
 use crate::pages::PAGE;
 use crate::random::Random;
 use crate::runs::{any_const, edges, kind_of};
@@ -66,7 +67,7 @@ pub fn computed(command: u8, dst: u16, lhs: u16, rhs: u16) -> Cell {
     }
 }
 
-fn put_site(cell: &mut Cell, place: usize, site: Option<u32>) {
+pub(crate) fn put_site(cell: &mut Cell, place: usize, site: Option<u32>) {
     cell[place] = site.is_some() as u8;
     cell[place + 1..place + 5].copy_from_slice(&site.unwrap_or(0).to_le_bytes());
 }
@@ -124,7 +125,7 @@ pub struct Exhaustive {
 pub const NO_OUTPUT: isize = -(1 << 20);
 
 pub fn exhaustive() -> Vec<Exhaustive> {
-    vec![
+    let mut groups = vec![
         every_length(),
         every_refusal(),
         every_cell(),
@@ -144,12 +145,21 @@ pub fn exhaustive() -> Vec<Exhaustive> {
         short_with_events(),
         short_rests(),
         chains(),
-    ]
+    ];
+    groups.extend(numbered::exhaustive());
+    groups
 }
 
 /// Those in which images take up to three rounds until they rest, and those of lengths and refusals.
 pub fn rests() -> Vec<Exhaustive> {
     vec![every_length(), every_refusal(), short_rests(), chains()]
+}
+
+/// Those in which functions have numbers, and those of lengths and refusals.
+pub fn numbers() -> Vec<Exhaustive> {
+    let mut groups = vec![every_length(), every_refusal()];
+    groups.extend(numbered::exhaustive());
+    groups
 }
 
 /// Those in which packed forms differ.
@@ -316,10 +326,10 @@ fn listed_function(first: usize, instrs: usize, events: usize) -> (Vec<Cell>, Ve
 }
 
 /// The longest of the short lists, in cells.
-const SHORT: usize = 5;
+pub(crate) const SHORT: usize = 5;
 
 /// The `index`th list over an alphabet, shorter lists first.
-fn word(alphabet: &[Cell], mut index: usize) -> Vec<Cell> {
+pub(crate) fn word(alphabet: &[Cell], mut index: usize) -> Vec<Cell> {
     let mut length = 0;
     let mut count = 1;
     while index >= count {
@@ -335,7 +345,7 @@ fn word(alphabet: &[Cell], mut index: usize) -> Vec<Cell> {
     letters.collect()
 }
 
-fn words(alphabet: &[Cell], longest: usize) -> usize {
+pub(crate) fn words(alphabet: &[Cell], longest: usize) -> usize {
     (0..=longest as u32).map(|length| alphabet.len().pow(length)).sum()
 }
 
@@ -495,17 +505,18 @@ fn short_functions() -> Exhaustive {
         more: &[0],
         run: 0,
         count: words(&alphabet, SHORT),
-        image: Box::new(move |index| several_functions(&word(&alphabet, index))),
+        image: Box::new(move |index| several_functions(&word(&alphabet, index), |_| Vec::new())),
     }
 }
 
 /// The functions of a list in which a head begins the next one; Borrow events go behind the
-/// instructions.
-fn several_functions(list: &[Cell]) -> Vec<u8> {
+/// instructions, and what these ask for behind them.
+pub(crate) fn several_functions(list: &[Cell], asked: fn(&[Cell]) -> Vec<Cell>) -> Vec<u8> {
     let mut image = Vec::new();
     for function in list.split(|cell| cell[0] == cells::HEAD) {
-        let (events, instrs): (Vec<Cell>, Vec<Cell>) =
+        let (mut events, instrs): (Vec<Cell>, Vec<Cell>) =
             function.iter().partition(|cell| cell[0] == cells::EVENT_BORROW);
+        events.extend(asked(&instrs));
         cells::push_function(&mut image, 7, &instrs, &events);
     }
     image
@@ -722,7 +733,7 @@ fn short_rests() -> Exhaustive {
         more: &[0],
         run: words(&alphabet, SHORT - 1),
         count: words(&alphabet, SHORT),
-        image: Box::new(move |index| several_functions(&word(&alphabet, index))),
+        image: Box::new(move |index| several_functions(&word(&alphabet, index), |_| Vec::new())),
     }
 }
 
@@ -1348,7 +1359,13 @@ pub fn any_function_with(
         }
     }
     instrs.truncate(shape.instrs);
-    let mut events = events_for(&instrs, |_| maker.random.range(1, 3));
+    let events = any_events(random, &instrs);
+    (instrs, events)
+}
+
+/// The events that make a function's sites good, and a few more, in any order.
+pub(crate) fn any_events(random: &mut Random, instrs: &[Cell]) -> Vec<Cell> {
+    let mut events = events_for(instrs, |_| random.range(1, 3));
     for _ in 0..random.below(3) {
         events.push(borrow(None));
     }
@@ -1356,11 +1373,11 @@ pub fn any_function_with(
         event[11..15].copy_from_slice(&(random.bits() as u32).to_le_bytes());
     }
     random.shuffle(&mut events);
-    (instrs, events)
+    events
 }
 
 /// Spoils the sites of a function, or not.
-fn spoil(random: &mut Random, instrs: &mut [Cell], events: &mut Vec<Cell>) {
+pub(crate) fn spoil(random: &mut Random, instrs: &mut [Cell], events: &mut Vec<Cell>) {
     for _ in 0..random.range(1, 2) {
         let some_site = events
             .iter()
@@ -1404,7 +1421,7 @@ fn spoil(random: &mut Random, instrs: &mut [Cell], events: &mut Vec<Cell>) {
     }
 }
 
-fn any_shape(random: &mut Random) -> Shape {
+pub(crate) fn any_shape(random: &mut Random) -> Shape {
     Shape {
         instrs: random.below(24),
         sites: random.pick(&[0, 5, 30, 60]),
@@ -1415,7 +1432,7 @@ fn any_shape(random: &mut Random) -> Shape {
     }
 }
 
-fn any_often(random: &mut Random) -> Often {
+pub(crate) fn any_often(random: &mut Random) -> Often {
     Often {
         quads: random.pick(&[0, 20, 60]),
         divisions: random.pick(&[0, 0, 15, 40]),
@@ -1631,11 +1648,12 @@ pub fn any_pair(random: &mut Random) -> [Vec<u8>; 2] {
 }
 
 fn any_part(random: &mut Random) -> Vec<u8> {
-    match random.below(24) {
+    match random.below(28) {
         0..=8 => any_image(random),
         9..=13 => several(random),
         14..=18 => damaged(random),
         19..=22 => restless(random),
+        23..=26 => numbered::any_numbered(random),
         _ => {
             let functions = functions();
             (functions.image)(random.below(functions.count))

@@ -33,6 +33,7 @@ pub fn joined(first: &Part, second: &Part) -> Option<Part> {
             fuller: None,
             pages: None,
             packed: None,
+            numbers: None,
         };
         return Some(Part { image, expected });
     }
@@ -52,6 +53,8 @@ pub fn joined(first: &Part, second: &Part) -> Option<Part> {
         // Each function begins a page numbered 001.
         pages: both(&one.pages, &two.pages).map(|(one, two)| [&one[..], two].concat()),
         packed: both(&one.packed, &two.packed).map(|(one, two)| [&one[..], two].concat()),
+        numbers: both(&one.numbers, &two.numbers)
+            .map(|(one, two)| one.joined(behind.functions, two)),
     };
     Some(Part { image, expected })
 }
@@ -152,7 +155,7 @@ pub fn check_original(joined: &Part) -> Result<(), Difference> {
     if let (Ok(parts), Ok(whole)) = (&parts.rested, &whole.rested) {
         parts.check("the original joined, Rest", whole)?;
     }
-    Ok(())
+    joined.expected.check_sealing_by_the_original(&joined.image)
 }
 
 /// The converse: the parts of an accepted image, cut where a function ends, for each function but
@@ -162,8 +165,8 @@ pub fn cuts(image: &[u8]) -> Result<Vec<[Part; 2]>, Difference> {
         return Ok(Vec::new());
     }
     let mut end = 0;
-    let ends = cells::functions(image).map(|function| {
-        end += CELL * (1 + function.instrs.len() + function.events.len());
+    let ends = cells::alone(image).map(|function| {
+        end += function.len();
         end
     });
     ends.filter(|end| *end < image.len()).map(|end| cut(image, end)).collect()

@@ -31,6 +31,7 @@ mod linked {
         (image: *const u8, length: usize, position: *mut usize, detail: *mut usize):
         matchdesk_image_check
         matchdesk_site_check
+        matchdesk_sealing_check
     }
     declared! {
         (
@@ -124,6 +125,9 @@ mod linked {
         }
         fn site_check(&self, image: &[u8]) -> Checked {
             check(matchdesk_site_check, image)
+        }
+        fn sealing_check(&self, image: &[u8]) -> Checked {
+            check(matchdesk_sealing_check, image)
         }
         fn cleanup(&self, image: &[u8], out: &mut [u8]) -> Rewritten {
             answer(matchdesk_cleanup, image, out)

@@ -4,7 +4,7 @@
 use differential::answers::{Operation, Operations};
 use differential::compare::{self, hexadecimal, Difference};
 use differential::driver::{
-    self, Count, Factors, Found, Groups, Lent, Occurred, Outcome, Packing, Rests,
+    self, Count, Factors, Found, Groups, Lent, Occurred, Outcome, Packing, Rests, Sealings,
 };
 use differential::factors::{self, TURNS};
 use differential::model::Model;
@@ -13,6 +13,7 @@ use differential::pages::SHAPES;
 use differential::program::{self, Program};
 use differential::random::{mix, Random};
 use differential::runs::{self, Outside};
+use differential::sealing::CASES;
 use differential::{cells, generate, sample, table, words};
 use std::process::ExitCode;
 use std::time::{SystemTime, UNIX_EPOCH};
@@ -32,7 +33,7 @@ usage: [--seed N] [--seconds N] [--threads N]
        [--seed N] --sample FILE
        --replay FILE
        [--seed N] [--seconds N] --program FILE
-           [--word rewrite|fuller|rest|pages|pack|unpack|factor]";
+           [--word rewrite|fuller|rest|seal|pages|pack|unpack|factor]";
 
 fn options() -> Result<Options, String> {
     let now = SystemTime::now().duration_since(UNIX_EPOCH).unwrap_or_default();
@@ -176,6 +177,7 @@ fn compare(options: &Options) -> Result<String, String> {
             "no difference between the original and: {}\n\
              the rewrite until it rests: by the original again and again\n\
              the fuller rewrite: by the model, and by the original as far as it decides\n\
+             the sealing check: by the model, and by the original's validators of all functions as one\n\
              the pages and the packed form: by the model\n\
              the factors: by the model, and by a search as far as it goes",
             names.join(", ")
@@ -196,7 +198,7 @@ fn compare(options: &Options) -> Result<String, String> {
         Lent::Pages(more) => println!("lent buffer longer than the pages by {more}"),
         Lent::Packed(more) => println!("lent output longer than the packed form by {more}"),
         Lent::Unpacked(more) => println!("lent output longer than what is unpacked by {more}"),
-        Lent::Law(_) | Lent::RestLaw | Lent::Number => {}
+        Lent::Law(_) | Lent::RestLaw | Lent::SealingLaw | Lent::Number => {}
     }
     println!("expected: {}", difference.expected);
     Err(format!("{subject}: {}", difference.got))
@@ -258,22 +260,19 @@ fn report(outcome: &Outcome) {
     println!("refusals by number  {}", by_number(&outcome.refusals));
     let Rests { rounds, longer } = &outcome.rests;
     println!("rounds until rest   {}; the first longer than the last: {longer}", by_number(rounds));
+    let Sealings { cases, gone } = &outcome.sealings;
+    println!("sealing, by case    {}", by_name(CASES.map(|(name, _)| name), cases));
+    println!("refused by 34 or 35, and not after the default rewrite: {gone}");
     let Occurred { too_short, longest, shapes } = &outcome.occurred;
     println!("pages in a buffer too short (30) {too_short}, longest pages {longest}");
-    let shapes: Vec<String> =
-        SHAPES.iter().zip(shapes).map(|((name, _), count)| format!("{name}: {count}")).collect();
-    println!("functions on pages  {}", shapes.join(", "));
+    println!("functions on pages  {}", by_name(SHAPES.map(|(name, _)| name), shapes));
     let Packing { packed, unpacked, forms, faults } = &outcome.packing;
     println!("packed, by answer   {}", by_number(packed));
     println!("unpacked, by answer {}", by_number(unpacked));
-    let faults: Vec<String> =
-        FAULTS.iter().zip(faults).map(|((name, _), count)| format!("{name}: {count}")).collect();
-    println!("packed forms {forms}; {}", faults.join(", "));
+    println!("packed forms {forms}; {}", by_name(FAULTS.map(|(name, _)| name), faults));
     let Factors { edges, random, turns } = &outcome.factors;
     println!("factors of pairs    edges: {edges}, random: {random}");
-    let turns: Vec<String> =
-        TURNS.iter().zip(turns).map(|((name, _), count)| format!("{name}: {count}")).collect();
-    println!("factors by case     {}", turns.join(", "));
+    println!("factors by case     {}", by_name(TURNS.map(|(name, _)| name), turns));
     println!("pairs of runs {}, entries of their records {}", outcome.runs, outcome.entries);
     let seconds = outcome.time.as_secs_f64();
     println!("{seconds:.1} s, {:.0} images a second", total.images as f64 / seconds);
@@ -284,4 +283,10 @@ fn by_number(counts: &[u64]) -> String {
     let counts = counts.iter().enumerate().filter(|(_, count)| **count > 0);
     let counts: Vec<String> = counts.map(|(number, count)| format!("{number}: {count}")).collect();
     counts.join(", ")
+}
+
+/// How often each of these came.
+fn by_name<const N: usize>(names: [&str; N], counts: &[u64; N]) -> String {
+    let counts = names.iter().zip(counts).map(|(name, count)| format!("{name}: {count}"));
+    counts.collect::<Vec<String>>().join(", ")
 }

@@ -1,6 +1,6 @@
 //! Document 01's answers, document 02's fuller rewrite and its rewrite until it rests, written from
 //! the documents on cells and bytes. Document 02's pages are in `pages.rs`, its packed form in
-//! `packed.rs`, its factors in `factors.rs`.
+//! `packed.rs`, its sealing check in `sealing.rs`, its factors in `factors.rs`.
 
 use crate::answers::{Checked, Operation, Operations, Refusal, Reply, Rewritten, Success};
 use crate::cells::{self, Cell, Function};
@@ -11,6 +11,7 @@ use crate::legacy_lowering::byte;
 use crate::packed;
 use crate::pages;
 use crate::rest::Rested;
+use crate::sealing;
 use crate::table;
 use std::collections::{HashMap, HashSet};
 use std::convert::Infallible;
@@ -26,6 +27,9 @@ impl Operations for Model {
     }
     fn site_check(&self, image: &[u8]) -> Checked {
         site_check(image)
+    }
+    fn sealing_check(&self, image: &[u8]) -> Checked {
+        sealing::check(image)
     }
     fn cleanup(&self, image: &[u8], out: &mut [u8]) -> Rewritten {
         run(Operation::Cleanup, image, out)
@@ -151,12 +155,12 @@ pub fn site_check(image: &[u8]) -> Checked {
 }
 
 /// The activation site of an instruction cell.
-fn activation_site(cell: &Cell) -> Option<u32> {
+pub(crate) fn activation_site(cell: &Cell) -> Option<u32> {
     cells::site(cell, table::layout(cell[0])?.activation_site?)
 }
 
 /// The write site of an instruction cell.
-fn write_site(cell: &Cell) -> Option<u32> {
+pub(crate) fn write_site(cell: &Cell) -> Option<u32> {
     cells::site(cell, table::layout(cell[0])?.write_site?)
 }
 

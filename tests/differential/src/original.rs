@@ -134,6 +134,43 @@ fn rested(first: (Vec<u8>, Success), mut module: Vec<IrFunction>) -> Result<Rest
     })
 }
 
+/// The sealing check by the original's own validators, of an image that passes them: they refuse all
+/// functions up to one, taken as one function, exactly if one of these repeats an earlier one's site.
+pub fn sealing_check(image: &[u8]) -> Result<Result<(), Refusal>, String> {
+    // One function repeats no other's.
+    if cells::functions(image).nth(1).is_none() {
+        return Ok(Ok(()));
+    }
+    let functions = codec::decode(image);
+    let kinds: [(u8, u8, fn(&IrFunction) -> Result<(), OptError>); 2] =
+        [(11, 34, validate_activation_sites), (21, 35, validate_write_sites)];
+    for (within, across, validate) in kinds {
+        let refused = |count: &usize| validate(&as_one(&functions[..*count])).err();
+        if refused(&functions.len()).is_none() {
+            continue;
+        }
+        let counts: Vec<usize> = (1..=functions.len()).collect();
+        let first = counts[counts.partition_point(|count| refused(count).is_none())];
+        let refusal = refusal(refused(&first).unwrap())?;
+        if refusal.number != within {
+            return Err(format!("all functions as one: {refusal}"));
+        }
+        return Ok(Err(Refusal { number: across, ..refusal }));
+    }
+    Ok(Ok(()))
+}
+
+/// The commands of functions that may have sites, and their events, under the last one's name.
+fn as_one(functions: &[IrFunction]) -> IrFunction {
+    let instrs = functions.iter().flat_map(|function| &function.instrs);
+    let sited = |it: &&IrInstr| matches!(it, IrInstr::StoreVar { .. } | IrInstr::MakeRecord { .. });
+    IrFunction {
+        name: functions.last().map(|function| function.name.clone()).unwrap_or_default(),
+        instrs: instrs.filter(sited).cloned().collect(),
+        ownership_events: functions.iter().flat_map(|it| it.ownership_events.clone()).collect(),
+    }
+}
+
 /// What CrystalFold alone writes for an image that passes the site check.
 pub fn crystalfold(image: &[u8]) -> Result<(Vec<u8>, Success), String> {
     let folded = written(Operation::CrystalFold, image, &mut codec::decode(image))?;

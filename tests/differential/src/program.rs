@@ -1,11 +1,12 @@
 //! The printing program, run as a user would run it.
 
-use crate::answers::{Operation, Refusal};
+use crate::answers::{checked_text, Operation, Refusal};
 use crate::cells::MAX_IMAGE;
 use crate::compare::{self, hexadecimal, Expected};
 use crate::forms;
 use crate::generate;
 use crate::model;
+use crate::numbered;
 use crate::packed;
 use crate::random::Random;
 use crate::shrink::{shrink, shrink_by};
@@ -25,6 +26,8 @@ pub struct Program<'a> {
 #[derive(Debug, Clone, Copy)]
 pub enum Text {
     Rewritten(Operation),
+    /// What the sealing check answers.
+    Sealed,
     Pages,
     /// The packed form of an image, and the image of a packed form: bytes, and a refusal on standard
     /// error.
@@ -51,6 +54,7 @@ impl<'a> Program<'a> {
             None | Some("rewrite") => Text::Rewritten(Operation::Rewrite),
             Some("fuller") => Text::Rewritten(Operation::Fuller),
             Some("rest") => Text::Rewritten(Operation::Rest),
+            Some("seal") => Text::Sealed,
             Some("pages") => Text::Pages,
             Some("pack") => Text::Packed,
             Some("unpack") => Text::Unpacked,
@@ -72,6 +76,10 @@ pub fn said(text: Text, input: &[u8]) -> Result<Said, String> {
     let output = |output: String| Said { output: output.into(), error: Vec::new() };
     match text {
         Text::Rewritten(operation) => Ok(output(rewritten_text(&expected()?, operation, input))),
+        Text::Sealed => {
+            let answer = expected()?.sealing_check();
+            Ok(output(format!("{}\n", checked_text(&answer))))
+        }
         Text::Pages => Ok(output(pages_text(&expected()?, input)?)),
         Text::Packed => Ok(bytes(model::image_check(input).map(|()| packed::pack(input)))),
         Text::Unpacked => Ok(bytes(packed::unpack(input).map_err(Refusal::from))),
@@ -128,8 +136,8 @@ pub fn compare(program: Program, seed: u64, seconds: u64) -> Result<String, Stri
 }
 
 fn input(random: &mut Random) -> Vec<u8> {
-    match random.below(48) {
-        0..=14 => generate::any_image(random),
+    match random.below(56) {
+        0..=14 => numbered::any_image(random),
         15..=26 => generate::damaged(random),
         27..=32 => {
             let mut image = generate::any_image(random);
@@ -144,6 +152,8 @@ fn input(random: &mut Random) -> Vec<u8> {
         39..=41 => generate::paged(random),
         42 => generate::longest_pages(random),
         43..=46 => generate::restless(random),
+        47..=53 => numbered::any_numbered(random),
+        54 => numbered::any_many(random),
         // Much more than an image may have.
         _ => vec![random.pick(&[0, 0xF0, 0x2B]); MAX_IMAGE + random.below(1 << 20)],
     }

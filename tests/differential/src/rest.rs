@@ -123,10 +123,10 @@ pub fn laws(subject: &dyn Operations, image: &[u8]) -> Result<(), Difference> {
     same(what, (&second_bytes, sum), (&bytes, success))
 }
 
-type Answered = Result<(Vec<u8>, Success), crate::answers::Refusal>;
+pub(crate) type Answered = Result<(Vec<u8>, Success), crate::answers::Refusal>;
 
 /// What an operation writes to an output as long as the image.
-fn written(image: &[u8], call: impl FnOnce(&mut [u8]) -> Rewritten) -> Answered {
+pub(crate) fn written(image: &[u8], call: impl FnOnce(&mut [u8]) -> Rewritten) -> Answered {
     let mut out = vec![0xA5; image.len()];
     let success = call(&mut out)?;
     out.truncate(success.length);

@@ -47,10 +47,16 @@ fn candidates(image: &[u8]) -> impl Iterator<Item = Vec<u8>> + '_ {
     let heads = heads(image);
     let ends: Vec<usize> = heads.iter().skip(1).copied().chain([image.len()]).collect();
 
-    let functions =
-        heads.clone().into_iter().zip(ends.clone()).map(move |(head, end)| without(head, end));
+    // Runs of functions, long ones first.
+    let starts = heads.clone();
+    let functions = halves(starts.len()).flat_map(move |size| {
+        let runs = starts.chunks(size).zip(ends.chunks(size));
+        let runs: Vec<(usize, usize)> =
+            runs.map(|(starts, ends)| (starts[0], ends[ends.len() - 1])).collect();
+        runs.into_iter().map(move |(start, end)| without(start, end))
+    });
 
-    // Runs of instruction or event cells, long ones first, with the head's count.
+    // Runs of instruction or event cells, with the head's count.
     let runs = heads.into_iter().flat_map(move |head| {
         let cell: &cells::Cell = image[head..head + CELL].try_into().unwrap();
         let instrs = cells::half(cell, 3) as usize;
@@ -58,8 +64,7 @@ fn candidates(image: &[u8]) -> impl Iterator<Item = Vec<u8>> + '_ {
         let first = head + CELL;
         let parts = [(3, first, instrs), (5, first + instrs * CELL, events)];
         parts.into_iter().flat_map(move |(count_at, start, count)| {
-            let sizes = std::iter::successors(Some(count), |size| Some(size / 2));
-            sizes.take_while(|size| *size > 0).flat_map(move |size| {
+            halves(count).flat_map(move |size| {
                 (0..=count - size).step_by(size).filter_map(move |skip| {
                     let from = start + skip * CELL;
                     let to = from + size * CELL;
@@ -83,6 +88,11 @@ fn candidates(image: &[u8]) -> impl Iterator<Item = Vec<u8>> + '_ {
     let chunks = (0..image.len() / CELL).map(move |at| without(at * CELL, (at + 1) * CELL));
 
     functions.chain(runs).chain(tails).chain(chunks)
+}
+
+/// A size, its half and so on down to 1.
+fn halves(size: usize) -> impl Iterator<Item = usize> {
+    std::iter::successors(Some(size), |size| Some(size / 2)).take_while(|size| *size > 0)
 }
 
 /// Where the heads are, as far as they can be followed.

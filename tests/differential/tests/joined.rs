@@ -429,6 +429,9 @@ impl Operations for Wrong {
         }
         answer.map_err(|refusal| refused(fault, image, refusal))
     }
+    fn sealing_check(&self, image: &[u8]) -> Checked {
+        Model.sealing_check(image)
+    }
     fn pages(&self, image: &[u8], out: &mut [u8]) -> Reply {
         Model.pages(image, out)
     }

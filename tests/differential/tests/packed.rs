@@ -4,6 +4,7 @@
 #[macro_use]
 mod common;
 
+use common::{bytes, image};
 use differential::answers::{Operation, Operations, Reply};
 use differential::cells::{self, Cell, CELL, HEAD_END, MAX_EVENTS, MAX_IMAGE, MAX_INSTRS};
 use differential::codec::Form;
@@ -897,23 +898,6 @@ fn the_library() {
 }
 
 // ---- By hand ----
-
-/// Bytes by their digits; blanks don't count.
-fn bytes(digits: &str) -> Vec<u8> {
-    let digits: Vec<u8> = digits.bytes().filter(|digit| *digit != b' ').collect();
-    let byte = |pair: &[u8]| u8::from_str_radix(std::str::from_utf8(pair).unwrap(), 16).unwrap();
-    digits.chunks(2).map(byte).collect()
-}
-
-/// Cells by their digits, filled up with zeros.
-fn image(cells: &[&str]) -> Vec<u8> {
-    let cell = |digits: &&str| {
-        let mut cell = bytes(digits);
-        cell.resize(CELL, 0);
-        cell
-    };
-    cells.iter().flat_map(cell).collect()
-}
 
 fn reply(number: usize, first: usize, second: usize) -> Reply {
     Reply { number, first, second }

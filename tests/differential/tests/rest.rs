@@ -4,6 +4,7 @@
 #[macro_use]
 mod common;
 
+use common::image;
 use differential::answers::{Operation, Operations, Refusal, Reply, Rewritten, Success};
 use differential::cells::{self, Cell, CELL};
 use differential::compare;
@@ -22,21 +23,6 @@ use differential::runs::{any_registers, claims, Outside};
 /// A program that answers as the model does but for one fault in its rewrite until it rests.
 #[derive(Debug, Clone, Copy, PartialEq)]
 struct Wrong(Fault);
-
-/// The faults; those given are also the list of what must be found.
-macro_rules! faults {
-    ($($(#[$said:meta])* $name:ident,)*) => {
-        #[derive(Debug, Clone, Copy, PartialEq)]
-        enum Fault {
-            NoFault,
-            $($(#[$said])* $name,)*
-            /// Of one image alone, which no group has but as what rests.
-            CountsEighty,
-        }
-
-        const FAULTS: &[Fault] = &[$(Fault::$name,)*];
-    };
-}
 
 faults! {
     // When it stops.
@@ -119,7 +105,11 @@ faults! {
     PositionFromOne,
     PositionForgotten,
     DetailInBytes,
-    DetailForgotten,
+    DetailForgotten;
+    // Not among them.
+    NoFault,
+    /// Of one image alone, which no group has but as what rests.
+    CountsEighty,
 }
 use Fault::*;
 
@@ -130,12 +120,7 @@ type Round = (Vec<u8>, u32);
 
 /// The functions of a good image as images of their own.
 fn alone(image: &[u8]) -> Vec<Vec<u8>> {
-    let function = |function: cells::Function| {
-        let mut image = Vec::new();
-        cells::push_function(&mut image, function.name, function.instrs, function.events);
-        image
-    };
-    cells::functions(image).map(function).collect()
+    cells::alone(image).map(<[u8]>::to_vec).collect()
 }
 
 fn rewritten(image: &[u8]) -> Round {
@@ -601,19 +586,6 @@ fn too_many_rounds() {
 }
 
 // ---- By hand ----
-
-/// Cells by their digits, filled up with zeros; blanks don't count.
-fn image(cells: &[&str]) -> Vec<u8> {
-    let cell = |digits: &&str| {
-        let digits: Vec<u8> = digits.bytes().filter(|digit| *digit != b' ').collect();
-        let byte =
-            |pair: &[u8]| u8::from_str_radix(std::str::from_utf8(pair).unwrap(), 16).unwrap();
-        let mut cell: Vec<u8> = digits.chunks(2).map(byte).collect();
-        cell.resize(CELL, 0);
-        cell
-    };
-    cells.iter().flat_map(cell).collect()
-}
 
 /// An image, the counts by round, and what rests.
 type Row = (&'static [&'static str], &'static [u32], &'static [&'static str]);

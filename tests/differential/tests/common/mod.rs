@@ -1,4 +1,37 @@
-//! What wrong programs share.
+//! What wrong programs and rows written out by hand share.
+
+/// Bytes by their digits; blanks don't count.
+#[allow(dead_code)]
+pub fn bytes(digits: &str) -> Vec<u8> {
+    let digits: Vec<u8> = digits.bytes().filter(|digit| *digit != b' ').collect();
+    let byte = |pair: &[u8]| u8::from_str_radix(std::str::from_utf8(pair).unwrap(), 16).unwrap();
+    digits.chunks(2).map(byte).collect()
+}
+
+/// Cells by their digits, filled up with zeros.
+#[allow(dead_code)]
+pub fn image(cells: &[&str]) -> Vec<u8> {
+    let cell = |digits: &&str| {
+        let mut cell = bytes(digits);
+        cell.resize(differential::cells::CELL, 0);
+        cell
+    };
+    cells.iter().flat_map(cell).collect()
+}
+
+/// The faults of wrong programs: those that must be found, which are also `FAULTS`; and others.
+#[allow(unused_macros)]
+macro_rules! faults {
+    ($($(#[$said:meta])* $name:ident),*; $($(#[$other_said:meta])* $other:ident,)*) => {
+        #[derive(Debug, Clone, Copy, PartialEq)]
+        enum Fault {
+            $($(#[$said])* $name,)*
+            $($(#[$other_said])* $other,)*
+        }
+
+        const FAULTS: &[Fault] = &[$(Fault::$name,)*];
+    };
+}
 
 /// In an `impl Operations`: a wrong program whose checks and rewrites are the model's.
 #[allow(unused_macros)]
@@ -23,6 +56,9 @@ macro_rules! checks_and_rewrites_but_rest_of_the_model {
         }
         fn site_check(&self, image: &[u8]) -> differential::answers::Checked {
             Model.site_check(image)
+        }
+        fn sealing_check(&self, image: &[u8]) -> differential::answers::Checked {
+            Model.sealing_check(image)
         }
         fn cleanup(&self, image: &[u8], out: &mut [u8]) -> differential::answers::Rewritten {
             Model.cleanup(image, out)
