@@ -28,6 +28,9 @@ use Rattle.passes.specs.declared.Pass.{Pass}
 use Rattle.crystalfold.specs.declared.rules.RuleSet.{RuleSet}
 use Rattle.passes.specs.declared.Rewrite.{Rewrite}
 use Rattle.passes.specs.declared.Rewrite.the-variants.{Written, Refused}
+use Rattle.release.specs.Contracts.{isWritten as isReleased, ReleaseDone}
+use Rattle.release.specs.declared.Released.{Released}
+use Rattle.release.specs.declared.Released.the-variants.{Written as WrittenRelease, Refused as RefusedRelease}
 use Rattle.rest.specs.Contracts.{RestDone}
 use Rattle.sealing.specs.Contracts.{SealingChecked}
 use Rattle.sealing.specs.declared.Sealing.{Sealing}
@@ -44,8 +47,8 @@ use Rattle.factor.specs.declared.Factor.{Factor}
 use Rattle.factor.specs.declared.Factor.the-variants.{Found, NoFactor}
 use Rattle.leaves.specs.declared.constant.ConstVal.{ConstVal}
 use Rattle.leaves.specs.declared.verdict.Verdict.{Verdict}
-use Rattle.capi.specs.Replies.{checkReply, sealingReply, rewriteReply, pagesReply, packingReply, factorReply}
-use Rattle.capi.specs.Contracts.{ImageReplied, SitesReplied, SealingReplied, PassReplied, RewriteReplied, RestReplied, PagesReplied, PackReplied, UnpackReplied, FactorReplied}
+use Rattle.capi.specs.Replies.{checkReply, sealingReply, rewriteReply, releaseReply, pagesReply, packingReply, factorReply}
+use Rattle.capi.specs.Contracts.{ImageReplied, SitesReplied, SealingReplied, PassReplied, RewriteReplied, RestReplied, ReleaseReplied, PagesReplied, PackReplied, UnpackReplied, FactorReplied}
 use Rattle.capi.specs.declared.FactorReply.{FactorReply}
 use Rattle.capi.specs.declared.Reply.{Reply}
 
@@ -81,6 +84,10 @@ sealing-zero (Repeated Write p x) = ((λ e. absurd (omega (arith, e))), (λ e. a
 rewrite-zero : (r : Rewrite) → (rewriteReply r .number ≡ 0) ↔ (isWritten r ≡ true)
 rewrite-zero (Written n report) = ((λ e. refl), (λ e. refl))
 rewrite-zero (Refused x) = ((λ e. absurd (refused x e)), (λ e. absurd (true≢false (sym e))))
+
+release-zero : (r : Released) → (releaseReply r .number ≡ 0) ↔ (isReleased r ≡ true)
+release-zero (WrittenRelease n) = ((λ e. refl), (λ e. refl))
+release-zero RefusedRelease = ((λ e. absurd (omega (arith, e))), (λ e. absurd (true≢false (sym e))))
 
 pages-zero : (r : Paged) → (pagesReply r .number ≡ 0) ↔ (isLaid r ≡ true)
 pages-zero (Laid n) = ((λ e. refl), (λ e. refl))
@@ -134,6 +141,14 @@ pub rest-replied : (k : RuleSet) (s before after : List ℕ) (r : Rewrite) (q : 
 rest-replied k s before after r q h e = record {
   reply = e ∙ ap rewriteReply (h .answer);
   accepted = via e (rewrite-zero r) (h .accepted);
+  done = rw (sym (h .answer)) h;
+}
+
+pub release-replied : (s out out′ answers answers′ : List ℕ) (r : Released) (q : Reply) → ReleaseDone s out out′ answers answers′ r → q ≡ releaseReply r
+    → ReleaseReplied s out out′ answers answers′ (q .number) (q .first) (q .second)
+release-replied s out out′ answers answers′ r q h e = record {
+  reply = e ∙ ap releaseReply (h .answer);
+  accepted = via e (release-zero r) (h .accepted);
   done = rw (sym (h .answer)) h;
 }
 

@@ -16,6 +16,8 @@ use Rattle.passes.specs.Passes.{passAnswer}
 use Rattle.passes.specs.Contracts.{PassDone, RewriteDone}
 use Rattle.passes.specs.declared.Pass.{Pass}
 use Rattle.passes.specs.declared.Pass.the-variants.{Both}
+use Rattle.release.specs.Contracts.{Admissible, ReleaseDone}
+use Rattle.release.specs.Release.{releaseAnswer}
 use Rattle.rest.specs.Contracts.{RestDone}
 use Rattle.sealing.specs.Contracts.{SealingPass, SealingChecked}
 use Rattle.sealing.specs.Sealing.{sealingAnswer}
@@ -25,7 +27,7 @@ use Rattle.factor.specs.Claim.{IsFactor, Nearest}
 use Rattle.factor.specs.declared.Factor.{Factor}
 use Rattle.leaves.specs.declared.constant.ConstVal.{ConstVal}
 use Rattle.leaves.specs.declared.verdict.Verdict.{Verdict}
-use Rattle.capi.specs.Replies.{three, checkReply, sealingReply, rewriteReply, pagesReply, packingReply, two, factorReply}
+use Rattle.capi.specs.Replies.{three, checkReply, sealingReply, rewriteReply, releaseReply, pagesReply, packingReply, two, factorReply}
 
 pub record ImageReplied (s : List ℕ) (number first second : ℕ) : Type 0 where
   pub reply : three number first second ≡ checkReply (imageAnswer s)
@@ -59,6 +61,13 @@ pub record RestReplied (k : RuleSet) (s before after : List ℕ) (number first s
   pub accepted : (number ≡ 0) ↔ (SitesPass s × (length s ≤ length before))
   -- every byte of the output, and all that `rewrite_until_rest` promises
   pub done : RestDone k s before after (restAnswer k s (length before))
+
+-- a whole release s: `out` and `out′` are what the lent output holds at entry and at exit, `answers` and `answers′` the same of the answers
+pub record ReleaseReplied (s out out′ answers answers′ : List ℕ) (number first second : ℕ) : Type 0 where
+  pub reply : three number first second ≡ releaseReply (releaseAnswer s (length out) (length answers))
+  pub accepted : (number ≡ 0) ↔ Admissible s (length out) (length answers)
+  -- every byte of both buffers, and all that `rewrite_release` promises
+  pub done : ReleaseDone s out out′ answers answers′ (releaseAnswer s (length out) (length answers))
 
 -- the pages
 pub record PagesReplied (s before after : List ℕ) (number first second : ℕ) : Type 0 where

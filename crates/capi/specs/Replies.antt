@@ -8,6 +8,8 @@ use Rattle.cells.specs.declared.refusal.Checked.{Checked}
 use Rattle.cells.specs.declared.refusal.Checked.the-variants.{Good, Refused as RefusedBy}
 use Rattle.passes.specs.declared.Rewrite.{Rewrite}
 use Rattle.passes.specs.declared.Rewrite.the-variants.{Written, Refused}
+use Rattle.release.specs.declared.Released.{Released}
+use Rattle.release.specs.declared.Released.the-variants.{Written as WrittenRelease, Refused as RefusedRelease}
 use Rattle.sealing.specs.Contracts.{repeatNumber}
 use Rattle.sealing.specs.declared.Sealing.{Sealing}
 use Rattle.sealing.specs.declared.Sealing.the-variants.{Good as Sealable, Refused as RefusedSealing, Repeated}
@@ -41,6 +43,12 @@ sealingReply (Repeated w p x) = three (repeatNumber w) p x
 abbrev pub rewriteReply : Rewrite → Reply
 rewriteReply (Written n report) = three 0 n (report .«num_rewrites»)
 rewriteReply (Refused x) = refusalReply x
+
+-- the length written to the output, and 0; 33 where a length or an image goes past the release's end, the output is shorter than the release, or
+-- there are fewer than 12 bytes an image for the answers (document 02, W9)
+abbrev pub releaseReply : Released → Reply
+releaseReply (WrittenRelease n) = three 0 n 0
+releaseReply RefusedRelease = three 33 0 0
 
 -- the length written, and 0; 30 where the buffer is shorter than the pages (document 02, W1)
 abbrev pub pagesReply : Paged → Reply

@@ -5,6 +5,7 @@ use factor::Factor;
 use packed::Packing;
 use pages::Paged;
 use passes::Rewrite;
+use release::Released;
 use sealing::Sealing;
 ghost use mathlib.Core.Path.{_≡_};
 ghost use Rattle.crystalfold.specs.declared.rules.RuleSet.the-variants.{Default, Fuller};
@@ -13,8 +14,8 @@ ghost use Rattle.factor.specs.Factor.{factorFx, factorI32};
 ghost use Rattle.leaves.specs.Fixed.{mulFx};
 ghost use Rattle.leaves.specs.Signed.{mulI32};
 ghost use Rattle.leaves.specs.declared.constant.ConstVal.the-variants.{I32, Fx};
-ghost use Rattle.capi.specs.Replies.{refusalReply, checkReply, rewriteReply, sealingReply, pagesReply, packingReply, factorReply};
-ghost use Rattle.capi.specs.Contracts.{ImageReplied, SitesReplied, SealingReplied, PassReplied, RewriteReplied, RestReplied, PagesReplied, PackReplied, UnpackReplied, FactorReplied};
+ghost use Rattle.capi.specs.Replies.{refusalReply, checkReply, rewriteReply, releaseReply, sealingReply, pagesReply, packingReply, factorReply};
+ghost use Rattle.capi.specs.Contracts.{ImageReplied, SitesReplied, SealingReplied, PassReplied, RewriteReplied, RestReplied, ReleaseReplied, PagesReplied, PackReplied, UnpackReplied, FactorReplied};
 
 // An answer in three numbers: 0 or the refusal's number, then two more.
 pub struct Reply {
@@ -154,6 +155,23 @@ pub extern "C" fn matchdesk_rewrite_until_rest(
     r.number
 }
 
+// A whole release: 0, the length written to the output and 0; or 33 and zeros.
+#[no_mangle]
+pub extern "C" fn matchdesk_rewrite_release(
+    release: &[u8],
+    out: &mut [u8],
+    answers: &mut [u8],
+    first: &mut usize,
+    second: &mut usize,
+) -> usize
+    ensures { λ r. ⌜ ReleaseReplied (now (release .entry)) (now (out .entry)) (now (out .exit)) (now (answers .entry)) (now (answers .exit)) r (now (first .exit)) (now (second .exit)) ⌝ }
+{
+    let r = reply_of_release(release::rewrite_release(release, out, answers));
+    *first = r.first;
+    *second = r.second;
+    r.number
+}
+
 // Pages: 0, the length written and 0; or the refusal's number, position and detail.
 #[no_mangle]
 pub extern "C" fn matchdesk_pages(
@@ -276,6 +294,23 @@ fn reply_of_rewrite(w: Rewrite) -> Reply
             second: report.num_rewrites,
         },
         Rewrite::Refused(x) => reply_of_refusal(x),
+    }
+}
+
+fn reply_of_release(w: Released) -> Reply
+    ensures { λ r. ⌜ r ≡ releaseReply w ⌝ }
+{
+    match w {
+        Released::Written(n) => Reply {
+            number: 0,
+            first: n,
+            second: 0,
+        },
+        Released::Refused => Reply {
+            number: 33,
+            first: 0,
+            second: 0,
+        },
     }
 }
 

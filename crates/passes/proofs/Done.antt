@@ -3,11 +3,11 @@ use mathlib.Core.Path.{_≡_, refl, sym, _∙_, ap}
 use mathlib.Core.Logic.{_↔_}
 use mathlib.Core.Bool.{Bool, true, false, cond, true≢false}
 use mathlib.Core.List.{List, [], _∷_, map}
-use Prim.Native.Nat.{ℕ, _*_, _≤_}
+use Prim.Native.Nat.{ℕ, _*_, _/_, _≤_}
 use native.Mathlib.Omega.{arith}
 use borrow.Author.Tests.{le-leb, leb-true}
 use lib.Dec.{leb}
-use lib.ListN.{length, take}
+use lib.ListN.{length, take, length-append}
 use Rattle.cells.specs.Answers.{orElse, unless}
 use Rattle.cells.specs.Cells.{cells, flat, over}
 use Rattle.cells.specs.Functions.{Function, functions, cellsOf, cellsOfAll}
@@ -16,7 +16,8 @@ use Rattle.cells.specs.declared.refusal.Refusal.the-variants.{Length, OutputToo
 use Rattle.cells.specs.declared.refusal.Checked.{Checked}
 use Rattle.cells.specs.declared.refusal.Checked.the-variants.{Good, Refused as RefusedBy}
 use Rattle.cells.proofs.Answers.{or-left, or-right, or-both}
-use Rattle.cells.proofs.Cells.{length-flat}
+use Rattle.cells.proofs.Cells.{length-flat, length-cells}
+use Rattle.cells.proofs.Functions.{cells-of-functions}
 use Rattle.cells.specs.Lists.{All}
 use Rattle.cells.proofs.Over.{over-take}
 use Rattle.cleanup.specs.Cleanup.{cleanFunction, cleanCount}
@@ -33,7 +34,7 @@ use Rattle.rewrite.specs.AllFunctions.{sumOf}
 use Rattle.rewrite.specs.Claim.{Rewritten}
 use Rattle.rewrite.specs.Preserved.{Preserved}
 use Rattle.rewrite.specs.Rewrite.{rewriteFunction, rewriteCount}
-use Rattle.rewrite.proofs.EachFunction.{all-each, count-each}
+use Rattle.rewrite.proofs.EachFunction.{all-each, count-each, count-few}
 use Rattle.rewrite.proofs.Records.{set-claim}
 use Rattle.rewrite.proofs.RewriteCounts.{rewrite-cells-fewer, rewrite-few}
 use Rattle.rewrite.proofs.RewritePreserves.{preserved}
@@ -119,6 +120,18 @@ module _ (p : Pass) (s : List ℕ) (g : SitesPass s) where
   bytes-functions =
       ap (λ (t : List ℕ). functions (cells t)) (bytes-are p s)
       ∙ handed-functions (passOne p) (one-formed p) (one-fewer p) s (g .image) ∙ sym (pass-map p (functions (cells s)))
+
+-- the whole rewrite counts no more than there are bytes
+code-few : (fs : List Function) → sumOf (λ (g : Function). length (g .code)) fs ≤ length (cellsOfAll fs)
+code-few [] = omega arith
+code-few (g ∷ fs) = omega (arith, length-append (cellsOf g) (cellsOfAll fs), length-append (g .code) (g .events), code-few fs)
+
+pub pass-few : (k : RuleSet) (s : List ℕ) → passCount (Both k) s ≤ length s
+unfolding passCount
+pass-few k s =
+    let fs : List Function = functions (cells s) in
+    let n : length (cellsOfAll fs) ≡ length s / 16 = ap length (cells-of-functions (cells s)) ∙ length-cells s in
+    omega (arith, count-few (rulesOf k) fs, code-few fs, n)
 
 -- ---- the check passes exactly if the image passes the site check and the output is long enough
 

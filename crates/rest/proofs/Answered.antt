@@ -1,22 +1,17 @@
 -- What `rewrite_until_rest` answers and writes: by the answer of its check, and by what its two rounds write.
 use mathlib.Core.Path.{_≡_, sym, _∙_, ap, ap₂}
-use mathlib.Core.List.{List, [], _∷_}
-use Prim.Native.Nat.{ℕ, _+_, _*_, _/_, _≤_}
+use mathlib.Core.List.{List}
+use Prim.Native.Nat.{ℕ, _+_, _*_, _≤_}
 use native.Mathlib.Omega.{arith}
-use lib.ListN.{length, replicate, take, length-append, length-replicate}
+use lib.ListN.{length, replicate, take, length-replicate}
 use Rattle.cells.specs.Check.{maxImage}
 use Rattle.cells.specs.Cells.{cells, over}
-use Rattle.cells.specs.Functions.{Function, functions, cellsOf, cellsOfAll}
+use Rattle.cells.specs.Functions.{functions}
 use Rattle.cells.specs.declared.refusal.Refusal.{Refusal}
 use Rattle.cells.specs.declared.refusal.Checked.{Checked}
 use Rattle.cells.specs.declared.refusal.Checked.the-variants.{Good, Refused as RefusedBy}
-use Rattle.cells.proofs.Cells.{length-cells}
-use Rattle.cells.proofs.Functions.{cells-of-functions}
 use Rattle.cells.proofs.Over.{over-take, length-over}
-use Rattle.crystalfold.specs.Rules.{rulesOf}
 use Rattle.crystalfold.specs.declared.rules.RuleSet.{RuleSet}
-use Rattle.rewrite.specs.AllFunctions.{sumOf}
-use Rattle.rewrite.proofs.EachFunction.{count-few}
 use Rattle.image.specs.SiteCheck.{siteAnswer, SitesPass}
 use Rattle.image.proofs.Good.{site-good}
 use Rattle.passes.specs.Passes.{passAll, countAll, passBytes, passCount, passCheck, answerAs, outputAs, report}
@@ -24,23 +19,11 @@ use Rattle.passes.specs.Steps.{AllWritten}
 use Rattle.passes.specs.declared.Pass.the-variants.{Both}
 use Rattle.passes.specs.declared.Rewrite.the-variants.{Written, Refused}
 use Rattle.passes.specs.declared.Total.{Total}
-use Rattle.passes.proofs.Done.{check-good, bytes-length, bytes-shorter}
+use Rattle.passes.proofs.Done.{check-good, bytes-length, bytes-shorter, pass-few}
 use Rattle.rest.specs.Rounds.{restBytes, restCount, restAnswer, restOutput}
 use Rattle.rest.specs.Contracts.{RestDone}
 use Rattle.rest.proofs.Rounds.{rounds-pass, rest-bytes, rest-count}
 use Rattle.rest.proofs.Done.{rest-done}
-
--- a round counts no more than there are bytes
-code-few : (fs : List Function) → sumOf (λ (g : Function). length (g .code)) fs ≤ length (cellsOfAll fs)
-code-few [] = omega arith
-code-few (g ∷ fs) = omega (arith, length-append (cellsOf g) (cellsOfAll fs), length-append (g .code) (g .events), code-few fs)
-
-pass-few : (k : RuleSet) (s : List ℕ) → passCount (Both k) s ≤ length s
-unfolding passCount
-pass-few k s =
-    let fs : List Function = functions (cells s) in
-    let n : length (cellsOfAll fs) ≡ length s / 16 = ap length (cells-of-functions (cells s)) ∙ length-cells s in
-    omega (arith, count-few (rulesOf k) fs, code-few fs, n)
 
 -- the memory is that of one image
 one-image : (work : List ℕ) → work ≡ replicate maxImage 0 → length work ≡ maxImage
