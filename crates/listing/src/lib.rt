@@ -80,9 +80,10 @@ fn list_good(text: &mut [u8]) -> Listed
     Listed::Text(append(b"good\n", text, 0))
 }
 
-// Each function below that takes `at` writes its piece there, and answers the position behind it.
+// Each function below that takes `at` writes its piece there, and answers the position behind it; the others write at the start.
 
-fn put_refused(number: usize, position: usize, detail: usize, line: &mut [u8]) -> usize
+// The line of a refusal.
+pub fn put_refused(number: usize, position: usize, detail: usize, line: &mut [u8]) -> usize
     requires { ⌜ 71 ≤ length (now line) ⌝ }
     ensures { λ r. ⌜ TextWritten (refusedText number position detail) (now (line .entry)) (now (line .exit)) r ⌝ }
 {
@@ -92,7 +93,8 @@ fn put_refused(number: usize, position: usize, detail: usize, line: &mut [u8]) -
     put_field(detail, b'\n', line, c)
 }
 
-fn put_rewrites(count: usize, line: &mut [u8]) -> usize
+// The line of a count.
+pub fn put_rewrites(count: usize, line: &mut [u8]) -> usize
     requires { ⌜ 30 ≤ length (now line) ⌝ }
     ensures { λ r. ⌜ TextWritten (rewritesLine count) (now (line .entry)) (now (line .exit)) r ⌝ }
 {
@@ -101,7 +103,7 @@ fn put_rewrites(count: usize, line: &mut [u8]) -> usize
 }
 
 // A number, and the byte behind it.
-fn put_field(n: usize, end: u8, text: &mut [u8], at: usize) -> usize
+pub fn put_field(n: usize, end: u8, text: &mut [u8], at: usize) -> usize
     requires { ⌜ at + 21 ≤ length (now text) ⌝ }
     ensures { λ r. ⌜ TextWritten (take at (now (text .entry)) ++ field n end) (now (text .entry)) (now (text .exit)) r ⌝ }
 {

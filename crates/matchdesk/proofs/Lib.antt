@@ -1,5 +1,4 @@
 pub mod Words
-pub mod Kept
 pub mod Texts
 pub mod Replies
 pub mod Laid

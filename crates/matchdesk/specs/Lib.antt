@@ -1,4 +1,3 @@
 pub mod Program
 pub mod Contracts
-pub mod Reading
 pub mod Cases

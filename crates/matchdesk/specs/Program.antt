@@ -159,7 +159,7 @@ programTexts Pack input = resultTexts (packResult input)
 programTexts Unpack input = resultTexts (unpackResult input)
 programTexts Seal input = onOutput (sealedText (sealingAnswer input))
 
--- Of an input past the longest image the program keeps the first 65,536 bytes and, of the others, only that there are some (src/input.rt). What it
+-- Of an input past the longest image the program keeps the first 65,536 bytes and, of the others, only that there are some (`input`). What it
 -- writes for what it kept is what each job writes for the whole input: an image so long is refused, whatever its bytes are, and of a packed form
 -- the first 65,536 bytes decide, since the cells of the longest image keep fewer.
 abbrev pub LongInputs : Type 0

@@ -1,6 +1,5 @@
 // The program: reads an image or a packed form on standard input, does the job that its argument names, and writes what the job says. Or finds
 // the other factor of a product, by its arguments alone.
-mod input;
 mod product;
 
 ghost use mathlib.Core.Path.{_≡_};
@@ -81,7 +80,7 @@ fn main() {
         return;
     };
     let mut buffer = input_buffer();
-    let input = input::read_to_end(&mut buffer, 0);
+    let input = input::read_to_end(&mut buffer, 0, MAX_IMAGE);
     let Input::Bytes(n) = input else {
         os::fail(b"standard input");
         return;

@@ -14,9 +14,9 @@ use Rattle.cells.specs.Cells.{over}
 use Rattle.cells.specs.Check.{maxImage}
 use Rattle.cells.proofs.Facts.{by-test}
 use Rattle.cells.proofs.Over.{length-over, over-part, over-nil}
-use Rattle.release.specs.Frames.{Image, frame, framed, imagesOf}
+use Rattle.release.specs.Frames.{Image, frame, framed, imagesOf, countAs}
 use Rattle.release.specs.Release.{handedBack, answerTo, released, answersTo, withRoom, admitted, answerAs, bufferAs, releaseAnswer, releaseOutput, releaseAnswers}
-use Rattle.release.specs.Steps.{countAs, Place, Placed, Ready}
+use Rattle.release.specs.Steps.{Place, Placed, Ready}
 use Rattle.release.specs.declared.Framing.the-variants.{PastEnd, Images}
 use Rattle.release.specs.declared.Released.{Released}
 use Rattle.release.specs.declared.Released.the-variants.{Written, Refused}

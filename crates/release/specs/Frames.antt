@@ -6,6 +6,8 @@ use mathlib.Core.Option.{Option, none, some}
 use lib.Dec.{eqb, leb}
 use lib.ListN.{length, take, drop}
 use Rattle.cells.specs.Bytes.{word, bytes}
+use Rattle.release.specs.declared.Framing.{Framing}
+use Rattle.release.specs.declared.Framing.the-variants.{PastEnd, Images}
 
 -- an image by its bytes, whatever they are
 abbrev pub Image : Type 0
@@ -22,7 +24,7 @@ framed (i ∷ is) = frame i ++ framed is
 
 -- ---- the images that bytes hold
 
--- the first length and the image behind it end within the bytes. Past the end a byte is read as 0, and a length that is cut off ends there too
+-- the length at the start and the image behind it lie within the bytes. Of fewer than four bytes they don't, whatever these are
 abbrev pub ends : List ℕ → Bool
 ends s = leb (4 + word s 0) (length s)
 
@@ -48,3 +50,8 @@ imagesWithin (suc n) s = cond (atEnd s) (some []) (cond (ends s) (join (firstIma
 
 unfoldable pub imagesOf : List ℕ → Option (List Image)
 imagesOf s = imagesWithin (length s) s
+
+-- how many there are
+abbrev pub countAs : Option (List Image) → Framing
+countAs none = PastEnd
+countAs (some is) = Images (length is)

@@ -1,20 +1,14 @@
--- Inner: what the inner functions say: how many images a release has; one image in its place; all of them.
+-- Inner: what the inner functions say: one image in its place, and all of them.
 use Prim.Native.Nat.{ℕ, _+_, _*_, _≤_, _<_, min}
 use mathlib.Core.Path.{_≡_}
 use mathlib.Core.List.{List}
-use mathlib.Core.Option.{Option, none, some}
+use mathlib.Core.Option.{some}
 use lib.ListN.{length}
 use Rattle.cells.specs.Cells.{over}
 use Rattle.cells.specs.Check.{maxImage}
 use Rattle.cells.specs.declared.refusal.Numbers.{Numbers}
 use Rattle.release.specs.Frames.{Image, frame, imagesOf}
 use Rattle.release.specs.Release.{handedBack, answerTo}
-use Rattle.release.specs.declared.Framing.{Framing}
-use Rattle.release.specs.declared.Framing.the-variants.{PastEnd, Images}
-
-abbrev pub countAs : Option (List Image) → Framing
-countAs none = PastEnd
-countAs (some is) = Images (length is)
 
 -- each number has room in 4 bytes
 pub record Small (x : Numbers) : Type 0 where

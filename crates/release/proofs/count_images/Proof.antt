@@ -4,7 +4,7 @@ use Prim.Native.Nat.{_-_}
 use native.Mathlib.Omega.{arith}
 use denote.Ref.{now}
 use lib.ListN.{length}
-use Rattle.release.specs.Steps.{countAs}
+use Rattle.release.specs.Frames.{countAs}
 use Rattle.release.specs.declared.Framing.the-variants.{Images}
 use Rattle.release.proofs.Frames.{Counted, counted-start, counted-next, counted-past, counted-all}
 use borrow.Author.Needs.{needs}

@@ -1,9 +1,9 @@
--- `matchdesk::input::read_some` meets its contract.
+-- `input::read_some` meets its contract.
 use denote.Ref.{now}
-use Rattle.matchdesk.proofs.Kept.{kept-start}
+use Rattle.input.proofs.Kept.{kept-start}
 use borrow.Author.Needs.{needs}
-use Rattle.matchdesk.proofs.input.read_some.Statement.{statement}
-use Rattle.matchdesk.proofs.input.read_some.Tie as tie
+use Rattle.input.proofs.read_some.Statement.{statement}
+use Rattle.input.proofs.read_some.Tie as tie
 
 returns : tie.Need-returns
 returns c = (tt, rw (← c .before .before .before .before .before .least .ensures) (kept-start (now (c .before .before .before .before .before .before .before .args .buffer)) _ (c .before .before .before .before .before .least .result) (search needs)))

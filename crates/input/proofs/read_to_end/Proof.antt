@@ -1,31 +1,31 @@
--- `matchdesk::input::read_to_end` meets its contract.
+-- `input::read_to_end` meets its contract.
 use Prim.Native.Nat.{ℕ, min, _≤_}
 use mathlib.Core.Path.{_≡_, refl, _∙_}
 use mathlib.Core.List.{List}
 use native.Mathlib.Omega.{arith}
 use lib.ListN.{length, take}
-use Rattle.matchdesk.proofs.Kept.{kept-less}
+use Rattle.input.proofs.Kept.{kept-less}
 use borrow.Author.Needs.{needs}
-use Rattle.matchdesk.proofs.input.read_to_end.Statement.{statement}
-use Rattle.matchdesk.proofs.input.read_to_end.Tie as tie
+use Rattle.input.proofs.read_to_end.Statement.{statement}
+use Rattle.input.proofs.read_to_end.Tie as tie
 
 -- so many bytes are read, and those that were kept stand as they did
-record Reading (kept : ℕ) (buffer₀ buffer : List ℕ) (size : ℕ) : Type 0 where
+record Reading (limit kept : ℕ) (buffer₀ buffer : List ℕ) (size : ℕ) : Type 0 where
   same : length buffer ≡ length buffer₀
   within : size ≤ length buffer
-  more : min kept 65536 ≤ size
-  stay : take (min kept 65536) buffer ≡ take (min kept 65536) buffer₀
+  more : min kept limit ≤ size
+  stay : take (min kept limit) buffer ≡ take (min kept limit) buffer₀
 
 -- after a read behind them
-still : {kept size : ℕ} {buffer₀ buffer : List ℕ} (last : List ℕ) → Reading kept buffer₀ buffer size → take (min size 65536) last ≡ take (min size 65536) buffer
-    → take (min kept 65536) last ≡ take (min kept 65536) buffer₀
-still {kept} {size} {buffer₀} {buffer} last r e = kept-less last buffer (min kept 65536) (min size 65536) (omega (arith, r .more)) e ∙ r .stay
+still : {limit kept size : ℕ} {buffer₀ buffer : List ℕ} (last : List ℕ) → Reading limit kept buffer₀ buffer size → take (min size limit) last ≡ take (min size limit) buffer
+    → take (min kept limit) last ≡ take (min kept limit) buffer₀
+still {limit} {kept} {size} {buffer₀} {buffer} last r e = kept-less last buffer (min kept limit) (min size limit) (omega (arith, r .more)) e ∙ r .stay
 
 abbrev Inv-loop : tie.InvT-loop
-Inv-loop buffer₀ kept size₀ turns₀ buffer size turns = Reading kept buffer₀ buffer size
+Inv-loop buffer₀ kept limit size₀ turns₀ buffer size turns = Reading limit kept buffer₀ buffer size
 
 abbrev μ-loop : tie.MeasureT-loop
-μ-loop buffer₀ kept size₀ turns₀ buffer size turns = turns
+μ-loop buffer₀ kept limit size₀ turns₀ buffer size turns = turns
 
 loop-holds : tie.Need-loop-holds Inv-loop μ-loop
 loop-holds c = record { same = refl; within = search needs; more = search needs; stay = refl }

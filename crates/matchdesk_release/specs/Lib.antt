@@ -1,0 +1,3 @@
+pub mod Program
+pub mod Contracts
+pub mod Cases
