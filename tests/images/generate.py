@@ -4,8 +4,8 @@ model's to the fuller rewrite (tests/differential), and its expected output, std
 operation.
 
 Every expected byte is written out by hand from documents 01 and 02, but for what `pack` makes of images that are there for other operations: that
-goes by the widths below. A word is a cell in hexadecimal, with zeros behind it; `CELL*N` is the cell N times, and `CELL*N@P` numbers these from 0
-in the 2 bytes at P. Commands that the rows name by their bytes:
+goes by the widths below. Releases are put together of images and outcomes that are written out. A word is a cell in hexadecimal, with zeros behind
+it; `CELL*N` is the cell N times, and `CELL*N@P` numbers these from 0 in the 2 bytes at P. Commands that the rows name by their bytes:
 
 Assert 01, Call 02, ClockRead 03, ClosureCall 04, EventPost 05, GateRead 06, GateWrite 07, Jmp 08, JmpIf 09, Label 0A, PulseEmit 0B, Ret 0C,
 RngNextI32 0D, RngSeed 0E, StateQuery 0F, StateUpdate 10, AddF64 11, AddFx 12, AddI32 13, BoolAnd 16, BoolNot 17, BoolOr 18, CmpEq 19,
@@ -26,7 +26,7 @@ CASES = os.path.join(ROOT, "crates", "cases_passes")
 SAMPLE = os.path.join(ROOT, "tests", "differential", "sample.bin")
 
 GROUP, NAME, IMAGE, OUTPUT = range(4)
-IMAGE_CHECK, SITE_CHECK, CLEANUP, CRYSTALFOLD, REWRITE, FULLER, PAGES, PACK, UNPACK, REST, SEAL = range(16, 27)
+IMAGE_CHECK, SITE_CHECK, CLEANUP, CRYSTALFOLD, REWRITE, FULLER, PAGES, PACK, UNPACK, REST, SEAL, RELEASE = range(16, 28)
 
 # The commands 01 to 51 by the Rust's names, each with the widths of its operands: document 01's, in the order in which the Rust's arm names them.
 COMMANDS = """
@@ -47,7 +47,7 @@ KEPT = [1 + sum(map(int, command.split(":")[1].split(","))) for command in COMMA
 HEAD, EVENT = 7, 15
 
 # name, image, answers by operation: a refusal (number, position, detail), or the bytes written and the count of rewrites; a check writes none.
-# For `unpack` the image is a packed form.
+# For `unpack` the image is a packed form, and for a release a framed one, with the bytes written to the output and to the answers.
 Row = collections.namedtuple("Row", "name image answers")
 
 
@@ -244,6 +244,49 @@ def no_form(name, words, number, position, detail):
     return Row(name, joined_bytes(words), {UNPACK: (number, position, detail)})
 
 
+def framed(data):
+    return struct.pack("<I", len(data)) + data
+
+
+def whole(image):
+    """All bytes of an image."""
+    return b"".join(expanded(image))[:runs(image)[0]]
+
+
+def release(name, *images):
+    """A release of images, each with what the default rewrite makes of it alone: the output and the count, or the refusal."""
+    sent = output = answers = b""
+    for image, *outcome in images:
+        bad = len(outcome) == 3
+        sent += framed(whole(image))
+        output += framed(b"" if bad else whole(outcome[0]))
+        answers += struct.pack("<III", *(outcome if bad else (0, outcome[1], 0)))
+    return Row(name, sent, {RELEASE: (output, answers)})
+
+
+def stays(image):
+    """An image of a release that the default rewrite leaves."""
+    return image, image, 0
+
+
+def in_bytes(name, words, output, answers):
+    """A release, its output and its answers, each with all its bytes."""
+    return Row(name, joined_bytes(words), {RELEASE: (joined_bytes(output), joined_bytes(answers))})
+
+
+def no_release(name, words):
+    """Bytes that are no release."""
+    return Row(name, joined_bytes(words), {RELEASE: (33, 0, 0)})
+
+
+def released(groups):
+    """Each group's images up to 2,048 bytes as one release, with the default rewrite's answers that are written down."""
+    for group, rows in groups:
+        images = [(row.image, *row.answers[REWRITE]) for row in rows if REWRITE in row.answers and runs(row.image)[0] <= 2048]
+        if images:
+            yield release("%s: %d images" % (group, len(images)), *images)
+
+
 # Packed forms of 4,096 cells, four functions of 1,023 events; of 4,095; and of 4,000 with a head behind them that promises 3,072 cells.
 FOUR = "F007000000FF03 000000000000000000000000000000*1023 " * 4
 LAST = "F007000000FF03 000000000000000000000000000000*1023 " * 3 + "F007000000FE03 000000000000000000000000000000*1022 "
@@ -256,6 +299,13 @@ STORED = "F00700010001 4D00000000000000000001{0} 01000000000001{0} "
 MADE = "F00700010001 3200000000000001{0} 01000000000001{0} "
 BOTH = "F00700010002 4D0000000001{0}01{1} 0001{0} 01000000000001{1} "
 FIVE, SIX, NINE = "05000000", "06000000", "09000000"
+
+# Images of releases: document 01's printed example, labels and a load of which one cell goes, a MakeRecord without its event, and the empty image.
+EXAMPLE = ("F0070003 2B010005 13020001000100 0C010200", "F0070003 2B010005 2B02000A 0C010200", 1)
+LABELS = ("F0080003 0A0100 080100 0A0100", "F0080002 0A0100 0A0100", 1)
+SHORTER = ("F0090002 2B010005 28010001", "F0090001 28010001", 1)
+UNMADE = ("F0070001 320000000000000105", 24, 0, 5)
+NOTHING = ("", "", 0)
 
 # A name and rows each, in the order of the document's modules: the checks, cleanup, CrystalFold, the image run; then document 02's.
 GROUPS = [
@@ -1180,11 +1230,157 @@ GROUPS = [
         sealed(good("129 cells", "F007*123 " + ACTIVATION.format(FIVE) * 2), 34, 124, 5),
         sealed(good("128 cells", "F007*122 " + ACTIVATION.format(FIVE) * 2), 34, 123, 5),
     ]),
+    # document 02, W9: length, image, and so on; then the output's bytes, and for each image three numbers
+    ("release, in bytes", [
+        in_bytes("no image", "", "", ""),
+        in_bytes("an empty image", "00000000", "00000000", "00000000 00000000 00000000"),
+        in_bytes("the printed example",
+                 "40000000 F0070003000000000000000000000000 2B010005000000000000000000000000 13020001000100000000000000000000 0C010200000000000000000000000000",
+                 "40000000 F0070003000000000000000000000000 2B010005000000000000000000000000 2B02000A000000000000000000000000 0C010200000000000000000000000000",
+                 "00000000 01000000 00000000"),
+        in_bytes("a load that goes",
+                 "30000000 F0070002000000000000000000000000 2B010005000000000000000000000000 28010001000000000000000000000000",
+                 "20000000 F0070001000000000000000000000000 28010001000000000000000000000000",
+                 "00000000 01000000 00000000"),
+        in_bytes("a refused image",
+                 "20000000 F0070001000000000000000000000000 32000000000000010500000000000000",
+                 "00000000",
+                 "18000000 00000000 05000000"),
+        in_bytes("a refused one between two",
+                 "10000000 F0070000000000000000000000000000 20000000 F0070001000000000000000000000000 52000000000000000000000000000000 "
+                 "30000000 F0080002000000000000000000000000 0A010000000000000000000000000000 0A010000000000000000000000000000",
+                 "10000000 F0070000000000000000000000000000 00000000 "
+                 "20000000 F0080001000000000000000000000000 0A010000000000000000000000000000",
+                 "00000000 00000000 00000000 03000000 00000000 01000000 00000000 01000000 00000000"),
+        in_bytes("an image of one byte", "01000000 F0", "00000000", "01000000 00000000 00000000"),
+        in_bytes("an image that looks like two empty ones", "08000000 00000000 00000000", "00000000", "01000000 00000000 00000000"),
+        # 258 functions without cells, then one whose register is 1,024: 4 of function 258, cell 259
+        in_bytes("a position and a cell of two bytes",
+                 "40100000 F0000000000000000000000000000000*258 F0070001000000000000000000000000 2B000405000000000000000000000000",
+                 "00000000",
+                 "04000000 02010000 03010000"),
+        in_bytes("a site of four bytes",
+                 "30000000 F0070002000000000000000000000000 4D000000000101020384000000000000 4D000000000101020384000000000000",
+                 "00000000",
+                 "0B000000 00000000 01020384"),
+        in_bytes("257 rewrites",
+                 "30100000 F0070002010000000000000000000000 0A010000000000000000000000000000*258",
+                 "20000000 F0070001000000000000000000000000 0A010000000000000000000000000000",
+                 "00000000 01010000 00000000"),
+    ]),
+    ("release, one image", [
+        release("that stays", stays("F0070001 2B010005")),
+        release("without cells", stays("F007")),
+        release("of which nothing but Ret stays", ("F0070004 0C 2F01000200 2F02000200 2F03000200", "F0070001 0C", 3)),
+        release("whose events go", ("F0070002000200 0C 4D0500010001090000000105 000109 0100000000000105", "F0070001 0C", 1)),
+        release("of two functions that both passes change", ("F0070002 2B010005 28010001 F0080003 2B010005 13020001000100 0C010200",
+                "F0070001 28010001 F0080003 2B010005 2B02000A 0C010200", 2)),
+        release("that only the fuller rewrite changes", stays("F0070002 2C010002 4302000100")),
+        release("that a second round would change", ("F0070002 2B010005 13010001000100", "F0070002 2B010005 2B01000A", 1)),
+        release("that the sealing check refuses", stays((ACTIVATION.format(FIVE) * 2).strip())),
+        release("of 65,536 bytes", stays("F007*4096")),
+        release("of 65,536 bytes, 4,092 rewrites", ("F00700FF07 2B0100 13010001000100*2046 F00800FF07 2B0100 13010001000100*2046",
+                "F00700FF07 2B0100*2047 F00800FF07 2B0100*2047", 4092)),
+    ]),
+    ("release, several images", [
+        release("the printed example twice", EXAMPLE, EXAMPLE),
+        release("the printed example, then labels", EXAMPLE, LABELS),
+        release("labels, then the printed example", LABELS, EXAMPLE),
+        release("the first and the last shorter", SHORTER, EXAMPLE, SHORTER),
+        release("the second shorter", EXAMPLE, SHORTER, EXAMPLE),
+        release("an empty image first", NOTHING, EXAMPLE),
+        release("an empty image between two", SHORTER, NOTHING, EXAMPLE),
+        release("an empty image last", SHORTER, NOTHING),
+        release("two empty images", NOTHING, NOTHING),
+        release("functions without cells", stays("F001"), stays("F002 F003"), stays("F004")),
+        release("forty of the printed example", *[EXAMPLE] * 40),
+        # LoadI32 r1 i, AddI32 r2 r1 r1, Ret r2 in function i
+        release("forty, each with a number of its own", *[
+            ("F0%02X0003 2B0100%02X 13020001000100 0C010200" % (i, i), "F0%02X0003 2B0100%02X 2B0200%02X 0C010200" % (i, i, 2 * i), 1) for i in range(40)]),
+        release("forty that get shorter", *[SHORTER] * 40),
+        release("forty, every third refused", *[EXAMPLE, SHORTER, UNMADE] * 13, LABELS),
+        release("1,000 empty images", *[NOTHING] * 1000),
+        release("65,536 bytes, then three empty images", stays("F007*4096"), NOTHING, NOTHING, NOTHING),
+    ]),
+    ("release, refused images", [
+        release("the first", UNMADE, EXAMPLE, LABELS),
+        release("the second", EXAMPLE, UNMADE, LABELS),
+        release("the last", EXAMPLE, LABELS, UNMADE),
+        release("the first two", UNMADE, UNMADE, SHORTER),
+        release("all but the second", UNMADE, SHORTER, UNMADE),
+        release("the last two", SHORTER, UNMADE, UNMADE),
+        release("all three", UNMADE, UNMADE, UNMADE),
+        release("forty", *[UNMADE] * 40),
+        release("behind an empty one", NOTHING, UNMADE, NOTHING),
+        release("lengths that are no multiple of 16", (1, 1, 0, 0), EXAMPLE, (15, 1, 0, 0), (17, 1, 0, 0), SHORTER, (31, 1, 0, 0), (79, 1, 0, 0)),
+        release("each number", ("F1", 2, 0, 0), EXAMPLE, ("F0070002 0A0100 52", 3, 0, 2), ("F0070001 2B0004", 4, 0, 1), LABELS,
+                ("F0070002 4D000000000109 4D000000000109", 11, 0, 9), ("F0070000000100 010109", 12, 0, 9), ("F0070000000200 000109 000109", 13, 0, 9),
+                ("F0070001 4D000000000109", 14, 0, 0), SHORTER, ("F0070002 320000000000000105 320000000000000105", 21, 0, 5),
+                ("F0070000000100 0000000000000105", 22, 0, 5), ("F0070000000100 01", 23, 0, 0), ("F0070001 320000000000000105", 24, 0, 5), NOTHING,
+                ("F0070001000200 4D0000000000000000000105 0100000000000105 0100000000000105", 25, 0, 5), ("F0070000000100 0100000000000105", 26, 0, 5), EXAMPLE),
+        # behind three functions of four cells in another image: a position and a cell are counted in its own
+        release("a position and a cell behind another image", stays("F001 F002 F0070001 0A0100"), ("F001 F0070001 2B0004", 4, 1, 2), ("F001 F0070001 320000000000000107", 24, 1, 7)),
+        release("one longer than the others", SHORTER, ("F007*300 F1", 2, 300, 300), SHORTER),
+        release("the greatest site", ("F0070000000100 0101FFFFFFFF", 12, 0, 4294967295), EXAMPLE),
+    ]),
+    # images of which one would change the other if anything were carried over, or if they were joined; both ways round
+    ("release, neighbours", [
+        release("%s%s" % (name, ", the other way round" if turn else ""), *(images[::-1] if turn else images)) for name, *images in [
+            ("a load, a sum of its register", stays("F0070001 2B010005"), stays("F0080001 13020001000100")),
+            ("a fold, a sum of its register", EXAMPLE, stays("F0080001 13030002000200")),
+            ("known and overwritten", stays("F0070002 2B010005 2B020007"), ("F0080002 2B010006 13030001000100", "F0080002 2B010006 2B03000C", 1), stays("F0090001 13040001000200")),
+            ("Ret, a load", stays("F0070002 2B010005 0C010100"), stays("F0080001 2B020006")),
+            ("Jmp, its label", stays("F0070002 010100 080100"), stays("F0080002 0A0100 010100")),
+            ("a label, the same label", stays("F0070001 0A0100"), stays("F0080001 0A0100")),
+            ("a load, a load of its register", stays("F0070001 2B010005"), stays("F0080001 28010001")),
+            ("a load, a head that promises more than there is", stays("F0070001 2B010005"), ("F0070002 2B010006", 2, 0, 0)),
+            ("a head without its cell, a head", ("F0070001", 2, 0, 0), stays("F00800")),
+            ("a StoreVar without its event, the event", ("F0070001 4D000000000109", 14, 0, 0), ("F0070000000100 000109", 14, 0, 0)),
+            ("a MakeRecord without its event, the event", UNMADE, ("F0070000000100 0100000000000105", 26, 0, 5)),
+            ("one site in both", stays((MADE.format(FIVE) + ACTIVATION.format(FIVE)).strip()), stays((ACTIVATION.format(FIVE) + MADE.format(FIVE)).strip())),
+            ("sites that go, the same sites", ("F0070002000200 0C 4D0500010001090000000105 000109 0100000000000105", "F0070001 0C", 1),
+             stays("F0080001000200 4D0500010001090000000105 000109 0100000000000105")),
+            ("loads before a fault, a sum of their registers", ("F0070003 2B010005 2B020006 52", 3, 0, 3), stays("F0080001 13030001000200")),
+            ("a long one that goes but for a load, the printed example", ("F0070028 2B0100*40@3", "F0070001 2B010027", 39), EXAMPLE),
+        ] for turn in (False, True)
+    ]),
+    # 33, whatever is lent
+    ("release, no release", [
+        no_release("one byte", "00"),
+        no_release("two bytes", "0000"),
+        no_release("three bytes", "000000"),
+        no_release("a byte behind an empty image", "00000000 00"),
+        no_release("three bytes behind an empty image", "00000000 000000"),
+        no_release("a byte behind a function", "10000000 F0070000000000000000000000000000 00"),
+        no_release("three bytes behind a function", "10000000 F0070000000000000000000000000000 10FFFF"),
+        no_release("a length of 1, and nothing", "01000000"),
+        no_release("a length of 16, and 15 bytes", "10000000 F00700000000000000000000000000"),
+        no_release("a length of 17, and 16 bytes", "11000000 F0070000000000000000000000000000"),
+        no_release("a length of 15, and 16 bytes", "0F000000 F0070000000000000000000000000000"),
+        no_release("a length of 16 with its last byte first", "00000010 F0070000000000000000000000000000"),
+        no_release("a length of 65,552, and 16 bytes", "10000100 F0070000000000000000000000000000"),
+        no_release("a length of 16,777,232, and 16 bytes", "10000001 F0070000000000000000000000000000"),
+        no_release("a length of 2,147,483,648", "00000080 F0070000000000000000000000000000"),
+        no_release("a length of 4,294,967,292", "FCFFFFFF"),
+        no_release("a length of 4,294,967,292, and 16 bytes", "FCFFFFFF F0070000000000000000000000000000"),
+        no_release("a length of 4,294,967,295", "FFFFFFFF"),
+        no_release("a length of 4,294,967,295, and 16 bytes", "FFFFFFFF F0070000000000000000000000000000"),
+        no_release("a length of 4,294,967,288 behind an empty image", "00000000 F8FFFFFF"),
+        no_release("a length of 4,294,967,295 behind an empty image", "00000000 FFFFFFFF"),
+        no_release("the second of three a byte short", "10000000 F0070000000000000000000000000000 10000000 F00800000000000000000000000000 10000000 F0090000000000000000000000000000"),
+        no_release("the last of three a byte short", "10000000 F0070000000000000000000000000000 10000000 F0080000000000000000000000000000 10000000 F00900000000000000000000000000"),
+        no_release("behind a refused image", "10000000 F1070000000000000000000000000000 11000000 F0080000000000000000000000000000"),
+        no_release("behind an image that would be changed",
+                   "30000000 F0070002000000000000000000000000 2B010005000000000000000000000000 28010001000000000000000000000000 04000000 000000"),
+        no_release("an image without a length", "F0070000000000000000000000000000"),
+        no_release("1,000 empty images and a byte", "00000000*1000 00"),
+    ]),
 ]
 
 
-def record(kind, refusal=(0, 0, 0), room=0, length=0, rewrites=0, listed=()):
-    head = struct.pack("<BBHIIIIBBH", kind, *refusal, room, length, rewrites, rewrites > 0, 0, len(listed))
+def record(kind, refusal=(0, 0, 0), room=0, length=0, rewrites=0, listed=(), answers=0):
+    changed = 0 < rewrites and kind != RELEASE
+    head = struct.pack("<BBHIIIIBBH", kind, *refusal, room, length, rewrites, changed, 0, len(listed) or answers)
     return head + b"".join(struct.pack("<HH", count, place) + cell for count, place, cell in listed)
 
 
@@ -1221,6 +1417,31 @@ def packing_calls(operation, image, answer):
         yield from (record(operation, refusal=(5, 0, 0), room=room) for room in (length - 1, 0))
 
 
+def release_calls(image, answer):
+    """The calls of a release, lent an output and behind it a buffer for the answers: the output as long as the release, a byte and a cell more, and a
+    byte less, half, and as much as the result; 12 bytes of answers an image, a byte and 12 more, and a byte less; and nothing. Less refuses 33 before
+    anything is written. Where it isn't a release: with nothing, and with more than enough."""
+    def refusals(rooms):
+        return [record(RELEASE, refusal=(33, 0, 0), room=out + behind, answers=behind) for out, behind in rooms]
+
+    n = len(image)
+    if len(answer) == 3:
+        enough = 12 * (n // 4 + 1)
+        yield from refusals([(0, 0), (n, 0), (n, enough), (n + 16, enough)])
+        return
+    output, answers = answer
+    length, kept = len(output), len(answers)
+    # for long releases, with both as short as may be and with both longer
+    for more, behind in [(0, 0), (16, 12)] if 512 < n else [(0, 0), (1, 0), (16, 0), (0, 1), (0, 12), (16, 12)]:
+        # the output's bytes behind what is written stay as the program marks them
+        marks = bytes(at % 251 for at in range(length, n + more))
+        yield bytes_record(OUTPUT, output + marks + answers)
+        yield record(RELEASE, room=n + more + kept + behind, length=n + more + kept, rewrites=length, answers=kept + behind)
+    if n:
+        shorter = {n - 1, 0} | ({length} if length < n else set()) | ({n // 2} if length <= n // 2 else set())
+        yield from refusals([(out, kept) for out in sorted(shorter)] + [(n - 1, kept + 12), (n, kept - 1), (n + 16, kept - 1), (n, 0), (0, 0)])
+
+
 def calls(operation, image, answer):
     """An operation's calls on an image: a check is lent nothing; a rewrite as much as the image, a byte and a cell more, and a byte less."""
     if operation == PAGES:
@@ -1228,6 +1449,9 @@ def calls(operation, image, answer):
         return
     if operation in (PACK, UNPACK):
         yield from packing_calls(operation, image, answer)
+        return
+    if operation == RELEASE:
+        yield from release_calls(image, answer)
         return
     n = runs(image)[0]
     rooms = [0] if operation in (IMAGE_CHECK, SITE_CHECK, SEAL) else [n, n + 1, n + 16]
@@ -1288,6 +1512,7 @@ def main():
         sys.exit(0 if "--help" in sys.argv[1:] else 2)
     lines = []
     groups = [(group, [with_seal(with_pack(row)) for row in rows]) for group, rows in GROUPS]
+    groups.append(("release, each group above", list(released(GROUPS))))
     for name, groups in (("images.bin", groups), ("sample.bin", sampled())):
         data, written = records(groups)
         with open(os.path.join(CASES, "data", name), "wb") as out:
