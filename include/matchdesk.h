@@ -1,17 +1,18 @@
 /*
  * The MatchDesk rewrite: image checks, cleanup, CrystalFold and the two whole rewrites of cell images (docs/FORMAT.md says what an image is), the
- * rewrite until it rests, the sealing check, the pages and the packed form of an image, and the other factor of a product.
+ * rewrite until it rests, the rewrite of a whole release, the sealing check, the pages and the packed form of an image, and the other factor of a
+ * product.
  *
  * Library: target/staticlib/libcapi.a for Linux on x86-64, made by `rt staticlib capi`. Every function is proved to meet its contract
- * (crates/capi/specs/Contracts.antt), for images of all bytes and lengths, outputs of all lengths and all numbers.
+ * (crates/capi/specs/Contracts.antt), for images and releases of all bytes and lengths, outputs of all lengths and all numbers.
  *
  * What a caller must see to, and no proof covers:
  *
  * - Every pointer is valid for the length given with it, and not NULL even for a length of 0.
- * - What is written (the output, and the numbers) overlaps with nothing else that the call is lent: the output isn't the image, and two numbers
- *   are two.
- * - The floating-point environment is the default one for matchdesk_crystalfold, matchdesk_rewrite, matchdesk_rewrite_fuller and
- *   matchdesk_rewrite_until_rest: see 'The floating-point environment' below.
+ * - What is written (the output, the answers of a release, and the numbers) overlaps with nothing else that the call is lent: the output isn't
+ *   the image, and two numbers are two.
+ * - The floating-point environment is the default one for matchdesk_crystalfold, matchdesk_rewrite, matchdesk_rewrite_fuller,
+ *   matchdesk_rewrite_until_rest and matchdesk_rewrite_release: see 'The floating-point environment' below.
  * - There is room on the stack: MATCHDESK_STACK, and MATCHDESK_STACK_UNTIL_REST for matchdesk_rewrite_until_rest.
  *
  * No function allocates, keeps a pointer or a state, or reads or writes anything but what it is lent. Threads may call at the same time, if
@@ -28,7 +29,7 @@
 #endif
 
 /* The version of this interface: it rises when a function is added or an answer changes. */
-#define MATCHDESK_VERSION 9
+#define MATCHDESK_VERSION 10
 
 /* The bytes of a cell. */
 #define MATCHDESK_CELL 16
@@ -42,13 +43,17 @@
 /* The bytes of a page's line, with its line feed, and of the longest pages: 4,179 lines. */
 #define MATCHDESK_PAGE_LINE 58
 #define MATCHDESK_MAX_PAGES 242382
+/* The bytes of an image's length in a release, and of its three numbers in the answers. */
+#define MATCHDESK_RELEASE_LENGTH 4
+#define MATCHDESK_RELEASE_ANSWER 12
 
 /*
  * A call of any function but matchdesk_rewrite_until_rest takes no more stack than this, in bytes, whatever the image. Measured, not proved
- * (tests/cinterface/stack.c paints a stack and looks how far each call went): 30 KiB for matchdesk_sealing_check, 21 KiB for matchdesk_cleanup and
- * the two rewrites, 19 KiB for matchdesk_crystalfold, 17 KiB for matchdesk_pages, 14 KiB for matchdesk_site_check, under 1 KiB for
- * matchdesk_image_check, matchdesk_pack, matchdesk_unpack and the factors. The rest is reserve. The frames have fixed sizes, and no function calls itself. What a thread needs for itself comes on top: one made with a stack
- * of 28 KiB could call matchdesk_rewrite, one of 24 KiB could not.
+ * (tests/cinterface/stack.c paints a stack and looks how far each call went): 30 KiB for matchdesk_sealing_check, 21 KiB for matchdesk_cleanup,
+ * the two rewrites and matchdesk_rewrite_release, however many images there are, 19 KiB for matchdesk_crystalfold, 17 KiB for matchdesk_pages,
+ * 14 KiB for matchdesk_site_check, under 1 KiB for matchdesk_image_check, matchdesk_pack, matchdesk_unpack and the factors. The rest is reserve.
+ * The frames have fixed sizes, and no function calls itself. What a thread needs for itself comes on top: one made with a stack of 28 KiB could call
+ * matchdesk_rewrite, one of 24 KiB could not.
  */
 #define MATCHDESK_STACK 32768
 
@@ -148,6 +153,33 @@ size_t matchdesk_rewrite_fuller(const unsigned char *image, size_t image_length,
 size_t matchdesk_rewrite_until_rest(const unsigned char *image, size_t image_length, unsigned char *out, size_t out_length, size_t *first, size_t *second);
 
 /*
+ * A whole release in one call: the default rewrite of each of its images. A release is images one behind the other, each behind its length in 4
+ * bytes, the lowest first; the output has the same form. The answers are three such numbers an image, in the same order:
+ *
+ *                     in the output                                in the answers
+ *   image rewritten   the new length, the rewritten image          0, number of rewrites, 0
+ *   image refused     a length of 0                                the refusal's number, position and detail
+ *
+ * Each image comes out as from matchdesk_rewrite alone with an output as long as the image, so one bad image changes nothing in its neighbours:
+ * position and detail are counted in the image itself, 1 (a length above 65,536 or no multiple of 16) is refused of that image only, and 5 never
+ * is. The release is only read, and its images are rewritten straight into their place in the output, with no copy in between.
+ *
+ * Returns 0 on success, however many images are refused, and else, before anything is written to either buffer,
+ *
+ *   33  the release ends within a length or an image; the output is shorter than the release, though the result would fit; or the answers have
+ *       fewer than 12 bytes an image
+ *
+ *              *first                         *second    out                                answers
+ *   success    length written to the output   0          as above up to that length,        as above, 12 bytes an image, behind
+ *                                                        behind it every byte as it was     them every byte as it was
+ *   refusal    0                              0          every byte as it was               every byte as it was
+ *
+ * A release of no bytes has no image and succeeds with 0. There is no limit on the number of images or on the length of the whole.
+ */
+size_t matchdesk_rewrite_release(const unsigned char *release, size_t release_length, unsigned char *out, size_t out_length, unsigned char *answers,
+                                 size_t answers_length, size_t *first, size_t *second);
+
+/*
  * The pages of an image, for people to read: lines of 57 bytes and a line feed. Each function begins a page:
  *
  *   function 00007 page 001
@@ -238,7 +270,7 @@ size_t matchdesk_factor_i32(int32_t wanted, int32_t factor, int32_t *other);
  *
  * CrystalFold folds f64 commands with the machine's own operations, and the proofs speak of IEEE 754's default: round to nearest, ties to
  * even; subnormal numbers kept; no traps. In a thread that has set something else, matchdesk_crystalfold, matchdesk_rewrite,
- * matchdesk_rewrite_fuller and matchdesk_rewrite_until_rest write other bytes, or don't come back:
+ * matchdesk_rewrite_fuller, matchdesk_rewrite_until_rest and matchdesk_rewrite_release write other bytes, or don't come back:
  *
  *   rounding upward            1.0 / 3.0 folds to 3FD5555555555556, not 3FD5555555555555
  *   FTZ and DAZ set (start-    5e-324 + 0.0 folds to 0.0, not 5e-324; CmpEq of 5e-324 and 0.0 to true, not false

@@ -43,6 +43,20 @@ static void trap_division_by_zero(void)
 
 typedef size_t operation(const unsigned char *, size_t, unsigned char *, size_t, size_t *, size_t *);
 
+/* A release of one image of less than 256 bytes, answered as matchdesk_rewrite answers it: what stands behind the length goes to the output. */
+static size_t release_of_one(const unsigned char *image, size_t length, unsigned char *out, size_t out_length, size_t *first, size_t *second)
+{
+    unsigned char release[MATCHDESK_RELEASE_LENGTH + 256] = {(unsigned char)length}, written[sizeof release], answers[MATCHDESK_RELEASE_ANSWER];
+    memcpy(release + MATCHDESK_RELEASE_LENGTH, image, length);
+    size_t number = matchdesk_rewrite_release(release, MATCHDESK_RELEASE_LENGTH + length, written, sizeof written, answers, sizeof answers, first, second);
+    if (number != 0 || answers[0] != 0 || *first != MATCHDESK_RELEASE_LENGTH + (size_t)written[0] || out_length < written[0])
+        return 33;
+    *first = written[0];
+    *second = answers[4];
+    memcpy(out, written + MATCHDESK_RELEASE_LENGTH, *first);
+    return 0;
+}
+
 static const struct row {
     const char *name;
     void (*set)(void);
@@ -64,6 +78,9 @@ static const struct row {
     {"rounding upward, until it rests, 1.0 / 3.0", round_upward, DIVISION,
      "F0070003 290100000000000000F03F 2902000000000000000840 290300565555555555D53F",
      "F0070003 290100000000000000F03F 2902000000000000000840 290300555555555555D53F", matchdesk_rewrite_until_rest},
+    {"rounding upward, a release, 1.0 / 3.0", round_upward, DIVISION,
+     "F0070003 290100000000000000F03F 2902000000000000000840 290300565555555555D53F",
+     "F0070003 290100000000000000F03F 2902000000000000000840 290300555555555555D53F", release_of_one},
     {"FTZ and DAZ, 5e-324 + 0.0", flush_subnormals, SUM, "F0070003 29010001 290200 290300", "F0070003 29010001 290200 29030001", matchdesk_rewrite},
     {"FTZ and DAZ, CmpEq of 5e-324 and 0.0", flush_subnormals, EQUALITY, "F0070003 29010001 290200 28030001", "F0070003 29010001 290200 280300", matchdesk_rewrite},
     {"FE_INVALID trapped, inf - inf", trap_invalid, INF_MINUS_INF, NULL, "F0070002 290100000000000000F07F 290300000000000000F87F", matchdesk_rewrite},

@@ -556,6 +556,90 @@ static const struct unread {
     {"F1070000000000 4096*00000000000000000000000000000000", {2, 0, 0}},
 };
 
+/*
+ * Releases, document 02's W9: what is sent, what stands in the output and in the answers afterwards, and the number of images. Lengths and answers
+ * are written out, in 4 bytes each.
+ */
+#define FOUR(x) x " " x " " x " " x
+#define FORTY(x) FOUR(x) " " FOUR(x) " " FOUR(x) " " FOUR(x) " " FOUR(x) " " FOUR(x) " " FOUR(x) " " FOUR(x) " " FOUR(x) " " FOUR(x)
+#define EXAMPLE "=40000000 F0070003 2B010005 13020001000100 0C010200"
+#define EXAMPLE_OUT "=40000000 F0070003 2B010005 2B02000A 0C010200"
+#define LABELS "=40000000 F0080003 0A0100 080100 0A0100"
+#define LABELS_OUT "=30000000 F0080002 0A0100 0A0100"
+/* a MakeRecord without its event */
+#define UNMADE "=20000000 F0070001 320000000000000105"
+#define NO_IMAGE "=00000000"
+#define KEPT "=00000000 =00000000 =00000000"
+#define ONE_REWRITE "=00000000 =01000000 =00000000"
+#define REFUSED_1 "=01000000 =00000000 =00000000"
+#define REFUSED_24 "=18000000 =00000000 =05000000"
+static const struct released {
+    const char *release, *out, *answers;
+    size_t images;
+} released[] = {
+    /* no image, empty images, a function with no cells */
+    {"", "", "", 0},
+    {NO_IMAGE, NO_IMAGE, KEPT, 1},
+    {FORTY(NO_IMAGE), FORTY(NO_IMAGE), FORTY(KEPT), 40},
+    {"=10000000 F00700", "=10000000 F00700", KEPT, 1},
+    /* the printed example; with labels, both ways round; with empty images */
+    {EXAMPLE, EXAMPLE_OUT, ONE_REWRITE, 1},
+    {EXAMPLE " " LABELS, EXAMPLE_OUT " " LABELS_OUT, ONE_REWRITE " " ONE_REWRITE, 2},
+    {LABELS " " EXAMPLE, LABELS_OUT " " EXAMPLE_OUT, ONE_REWRITE " " ONE_REWRITE, 2},
+    {NO_IMAGE " " LABELS " " NO_IMAGE " " EXAMPLE " " NO_IMAGE, NO_IMAGE " " LABELS_OUT " " NO_IMAGE " " EXAMPLE_OUT " " NO_IMAGE,
+     KEPT " " ONE_REWRITE " " KEPT " " ONE_REWRITE " " KEPT, 5},
+    /* refused: the only one; the first, the second and the last of three; two; all */
+    {UNMADE, NO_IMAGE, REFUSED_24, 1},
+    {UNMADE " " LABELS " " EXAMPLE, NO_IMAGE " " LABELS_OUT " " EXAMPLE_OUT, REFUSED_24 " " ONE_REWRITE " " ONE_REWRITE, 3},
+    {LABELS " " UNMADE " " EXAMPLE, LABELS_OUT " " NO_IMAGE " " EXAMPLE_OUT, ONE_REWRITE " " REFUSED_24 " " ONE_REWRITE, 3},
+    {LABELS " " EXAMPLE " " UNMADE, LABELS_OUT " " EXAMPLE_OUT " " NO_IMAGE, ONE_REWRITE " " ONE_REWRITE " " REFUSED_24, 3},
+    {UNMADE " " LABELS " " UNMADE, NO_IMAGE " " LABELS_OUT " " NO_IMAGE, REFUSED_24 " " ONE_REWRITE " " REFUSED_24, 3},
+    {FORTY(UNMADE), FORTY(NO_IMAGE), FORTY(REFUSED_24), 40},
+    /* 1 is the image's own: 1, 15 and 17 bytes; bytes that look like two empty images; 65,537, 65,552 and 131,072 bytes */
+    {"=01000000 =00 " LABELS " =0F000000 =F0070000000000000000000000 =0000 " EXAMPLE, NO_IMAGE " " LABELS_OUT " " NO_IMAGE " " EXAMPLE_OUT,
+     REFUSED_1 " " ONE_REWRITE " " REFUSED_1 " " ONE_REWRITE, 4},
+    {"=11000000 F00700 =00 " EXAMPLE, NO_IMAGE " " EXAMPLE_OUT, REFUSED_1 " " ONE_REWRITE, 2},
+    {"=08000000 =0000000000000000", NO_IMAGE, REFUSED_1, 1},
+    {LABELS " =01000100 4096*F00700 =00 " EXAMPLE, LABELS_OUT " " NO_IMAGE " " EXAMPLE_OUT, ONE_REWRITE " " REFUSED_1 " " ONE_REWRITE, 3},
+    {LABELS " =10000100 4097*F00700 " EXAMPLE, LABELS_OUT " " NO_IMAGE " " EXAMPLE_OUT, ONE_REWRITE " " REFUSED_1 " " ONE_REWRITE, 3},
+    {LABELS " =00000200 8192*F00700 " EXAMPLE, LABELS_OUT " " NO_IMAGE " " EXAMPLE_OUT, ONE_REWRITE " " REFUSED_1 " " ONE_REWRITE, 3},
+    /* a position and a cell are the image's own, behind three functions of four cells; numbers of two and of four bytes */
+    {"=40000000 F001 F002 F0070001 0A0100 =30000000 F001 F0070001 2B0004", "=40000000 F001 F002 F0070001 0A0100 =00000000",
+     KEPT " =04000000 =01000000 =02000000", 2},
+    {"=40100000 258*F001 F0070001 2B0004 " EXAMPLE, NO_IMAGE " " EXAMPLE_OUT, "=04000000 =02010000 =03010000 " ONE_REWRITE, 2},
+    {"=20000000 F0070000000100 010101020384", NO_IMAGE, "=0C000000 =00000000 =01020384", 1},
+    {"=10800000 F007000008 2048*0A0100 " EXAMPLE, "=20000000 F0070001 0A0100 " EXAMPLE_OUT, "=00000000 =FF070000 =00000000 " ONE_REWRITE, 2},
+    /* nothing is carried over: a known register, Ret, Jmp and its label, equal labels, loads of one register, a StoreVar and its event */
+    {"=20000000 F0070001 2B010005 =20000000 F0080001 13020001000100", "=20000000 F0070001 2B010005 =20000000 F0080001 13020001000100", KEPT " " KEPT, 2},
+    {"=20000000 F0070001 0C =20000000 F0080001 2B010005", "=20000000 F0070001 0C =20000000 F0080001 2B010005", KEPT " " KEPT, 2},
+    {"=20000000 F0070001 080100 =20000000 F0080001 0A0100", "=20000000 F0070001 080100 =20000000 F0080001 0A0100", KEPT " " KEPT, 2},
+    {"=20000000 F0070001 0A0100 =20000000 F0080001 0A0100", "=20000000 F0070001 0A0100 =20000000 F0080001 0A0100", KEPT " " KEPT, 2},
+    {"=20000000 F0070001 2B010005 =20000000 F0080001 2B010006", "=20000000 F0070001 2B010005 =20000000 F0080001 2B010006", KEPT " " KEPT, 2},
+    {"=20000000 F0070001 4D000000000109 =20000000 F0080000000100 000109", NO_IMAGE " " NO_IMAGE,
+     "=0E000000 =00000000 =00000000 =0E000000 =00000000 =00000000", 2},
+    /* a refused image's loads are known to nobody behind it */
+    {"=30000000 F0070002 2B010005 52 =20000000 F0080001 13020001000100", "=00000000 =20000000 F0080001 13020001000100", "=03000000 =00000000 =02000000 " KEPT, 2},
+    /* forty, and forty of the longest images: unchanged; all but a load and its head gone from each function */
+    {FORTY(EXAMPLE " " UNMADE " " LABELS), FORTY(EXAMPLE_OUT " " NO_IMAGE " " LABELS_OUT), FORTY(ONE_REWRITE " " REFUSED_24 " " ONE_REWRITE), 120},
+    {FORTY("=00000100 4096*F00700"), FORTY("=00000100 4096*F00700"), FORTY(KEPT), 40},
+    {FORTY("=00000100 F00700FF07 2047*2B010005 F00800FF07 2047*2B020006"), FORTY("=40000000 F0070001 2B010005 F0080001 2B020006"),
+     FORTY("=00000000 =FC0F0000 =00000000"), 40},
+};
+
+/* What is no release, whatever is lent. */
+static const char *const unframed[] = {
+    /* 1 to 3 bytes of a length, at the start and behind an image; an image without its length */
+    "=00", "=0000", "=000000", "=00000000 =00", "=00000000 =000000", EXAMPLE " =00", EXAMPLE " =10FFFF", UNMADE " =0000", "F00700",
+    /* an image a byte short, and a byte left over, which is no length */
+    "=01000000", "=10000000 =F0070000000000000000000000 =0000", "=11000000 F00700", "=0F000000 F00700", EXAMPLE " =01000000", LABELS " =21000000 F0070001 0A0100",
+    EXAMPLE " =11000000 F00700 " EXAMPLE,
+    /* lengths whose last byte would be first, and that 2 or 3 of their bytes would make right */
+    "=00000010 F00700", "=10000100 F00700", "=10000001 F00700",
+    /* the greatest lengths: what comes behind 2^32 bytes isn't the start again */
+    "=FFFFFFFF", "=FFFFFFFF F00700", "=FCFFFFFF", "=FCFFFFFF F00700", "=FBFFFFFF F00700", "=00000080 F00700", "=FFFFFF7F F00700",
+    "=00000000 =F8FFFFFF", "=00000000 =FCFFFFFF", "=00000000 =FFFFFFFF", EXAMPLE " =FFFFFFFF", UNMADE " =FFFFFFFF",
+};
+
 /* Factors, document 02's W14: a wanted value, one factor, the number returned and the other factor. */
 #define LEAST INT32_MIN
 #define MOST INT32_MAX
@@ -683,6 +767,14 @@ typedef size_t operation(const unsigned char *, size_t, unsigned char *, size_t,
 
 static unsigned char image[LONGEST], sent[LONGEST], expected[MATCHDESK_MAX_PAGES];
 static unsigned char memory[MARGIN + MATCHDESK_MAX_PAGES + MATCHDESK_PAGE_LINE + MARGIN];
+/* A release: what is sent, what is expected of it, and the memory of a call. There is room for forty of the longest images, and for all of the tests. */
+#define LONGEST_RELEASE (40 * (MATCHDESK_RELEASE_LENGTH + MATCHDESK_MAX_IMAGE))
+#define MOST_ANSWERS (1000 * MATCHDESK_RELEASE_ANSWER)
+static struct release {
+    unsigned char sent[LONGEST_RELEASE], out[LONGEST_RELEASE], answers[MOST_ANSWERS];
+    size_t length, bytes, images;
+} release;
+static unsigned char given[LONGEST_RELEASE], around[LONGEST_RELEASE + MATCHDESK_CELL + MOST_ANSWERS + 3 * MARGIN];
 static unsigned calls, wrong;
 
 /* Two marks for a byte, so that no byte that is written can pass for one that was kept. */
@@ -922,6 +1014,124 @@ static void try_back(const char *text)
     try_output("unpack", matchdesk_unpack, text, bytes, length, want, expected, length);
 }
 
+/* One call with an output and answers of these lengths. Of both so many bytes are written, and every other one is as it was. */
+static void try_lent(const char *text, size_t lent, size_t kept, struct answer want, size_t bytes, size_t answered)
+{
+    size_t answers = MARGIN + lent + MARGIN, end = answers + kept + MARGIN;
+    for (int turn = 0; turn < 2; turn++) {
+        for (size_t i = 0; i < end; i++)
+            around[i] = mark(i, turn);
+        struct answer got = {0, UNSET, UNSET};
+        got.number = matchdesk_rewrite_release(given, release.length, around + MARGIN, lent, around + answers, kept, &got.first, &got.second);
+        compare("rewrite_release", text, want, got);
+        if (memcmp(given, release.sent, release.length) != 0)
+            complain("rewrite_release", text, "the release was changed", 0);
+        for (size_t i = 0; i < end; i++) {
+            int out = i >= MARGIN && i - MARGIN < bytes, answer = i >= answers && i - answers < answered;
+            if (around[i] != (out ? release.out[i - MARGIN] : answer ? release.answers[i - answers] : mark(i, turn))) {
+                complain("rewrite_release", text, out ? "wrong output" : answer ? "wrong answers" : "a byte that should stay was changed", i - MARGIN);
+                break;
+            }
+        }
+    }
+}
+
+/* With an output and answers as short as may be, and longer; and with one of them shorter, though the result would fit, which refuses 33. */
+static void try_release(const char *text)
+{
+    size_t length = release.length, bytes = release.bytes, answered = MATCHDESK_RELEASE_ANSWER * release.images;
+    struct answer want = {0, bytes, 0}, shorter = {33, 0, 0};
+    const size_t enough[][2] = {{0, 0}, {1, 0}, {MATCHDESK_CELL, 0}, {0, 1}, {0, MATCHDESK_RELEASE_ANSWER}, {MATCHDESK_CELL, MATCHDESK_RELEASE_ANSWER}};
+    const size_t few[][2] = {{length - 1, answered}, {length - 1, answered + MATCHDESK_RELEASE_ANSWER}, {length / 2, answered}, {0, answered}, {0, 0},
+                             {length, answered - 1}, {length + MATCHDESK_CELL, answered - 1}, {length, 0}};
+    memcpy(given, release.sent, release.length);
+    for (size_t i = 0; i < sizeof enough / sizeof *enough; i++)
+        try_lent(text, length + enough[i][0], answered + enough[i][1], want, bytes, answered);
+    for (size_t i = 0; length > 0 && i < sizeof few / sizeof *few; i++)
+        try_lent(text, few[i][0], few[i][1], shorter, 0, 0);
+    if (bytes < length)
+        try_lent(text, bytes, answered, shorter, 0, 0);
+}
+
+static void try_released(const struct released *r)
+{
+    release.length = assemble(r->release, release.sent);
+    release.bytes = assemble(r->out, release.out);
+    release.images = r->images;
+    if (assemble(r->answers, release.answers) != MATCHDESK_RELEASE_ANSWER * r->images)
+        complain("rewrite_release", r->release, "a row with another number of answers", r->images);
+    try_release(r->release);
+}
+
+static void try_unframed(const char *text)
+{
+    struct answer want = {33, 0, 0};
+    size_t length = release.length = assemble(text, release.sent), enough = MATCHDESK_RELEASE_ANSWER * (length / MATCHDESK_RELEASE_LENGTH + 1);
+    memcpy(given, release.sent, release.length);
+    const size_t lent[][2] = {{0, 0}, {length, 0}, {0, enough}, {length, enough}, {length + MATCHDESK_CELL, enough}};
+    for (size_t i = 0; i < sizeof lent / sizeof *lent; i++)
+        try_lent(text, lent[i][0], lent[i][1], want, 0, 0);
+}
+
+static void put_number(unsigned char *to, size_t number)
+{
+    for (size_t i = 0; i < 4; i++)
+        to[i] = (unsigned char)(number >> 8 * i);
+}
+
+/* One more image of the release, with its refusal or what is written of it. */
+static void add_image(const char *text, struct answer refusal, struct written w)
+{
+    if (release.length + MATCHDESK_RELEASE_LENGTH + LONGEST > LONGEST_RELEASE || release.images == MOST_ANSWERS / MATCHDESK_RELEASE_ANSWER) {
+        printf("no room for another image in the release\n");
+        exit(1);
+    }
+    size_t good = refusal.number == 0, length = assemble(text, release.sent + release.length + MATCHDESK_RELEASE_LENGTH);
+    size_t bytes = good ? assemble(w.image != NULL ? w.image : text, release.out + release.bytes + MATCHDESK_RELEASE_LENGTH) : 0;
+    unsigned char *answer = release.answers + MATCHDESK_RELEASE_ANSWER * release.images;
+    put_number(release.sent + release.length, length);
+    put_number(release.out + release.bytes, bytes);
+    put_number(answer, refusal.number);
+    put_number(answer + 4, good ? w.rewrites : refusal.first);
+    put_number(answer + 8, refusal.second);
+    release.length += MATCHDESK_RELEASE_LENGTH + length;
+    release.bytes += MATCHDESK_RELEASE_LENGTH + bytes;
+    release.images++;
+}
+
+/* An image alone, and between a refused one and the printed example. */
+static void try_image(const char *text, struct answer refusal, struct written w)
+{
+    struct answer good = GOOD, unmade = {24, 0, 5};
+    struct written none = UNCHANGED, example = {"F0070003 2B010005 2B02000A 0C010200", 1};
+    release.length = release.bytes = release.images = 0;
+    add_image(text, refusal, w);
+    try_release(text);
+    release.length = release.bytes = release.images = 0;
+    add_image("F0070001 320000000000000105", unmade, none);
+    add_image(text, refusal, w);
+    add_image("F0070003 2B010005 13020001000100 0C010200", good, example);
+    try_release(text);
+}
+
+/* The images of the other tables, each with what the default rewrite makes of it. */
+static void each_image(void (*use)(const char *, struct answer, struct written))
+{
+    struct answer good = GOOD;
+    struct written unchanged = UNCHANGED;
+    for (size_t i = 0; i < sizeof checked / sizeof *checked; i++)
+        if (checked[i].site_check.number != 0)
+            use(checked[i].image, checked[i].site_check, unchanged);
+    for (size_t i = 0; i < sizeof rewritten / sizeof *rewritten; i++)
+        use(rewritten[i].image, good, rewritten[i].rewrite);
+    for (size_t i = 0; i < sizeof fuller / sizeof *fuller; i++)
+        use(fuller[i].image, good, unchanged);
+    for (size_t i = 0; i < sizeof rested / sizeof *rested; i++)
+        use(rested[i].image, good, rested[i].once);
+    for (size_t i = 0; i < sizeof sealed / sizeof *sealed; i++)
+        use(sealed[i].image, good, unchanged);
+}
+
 /* What is lent is marked in two ways, and stands between two numbers that stay. */
 static void try_factor(const char *function, factor_of *call, const struct factored *f)
 {
@@ -1002,6 +1212,14 @@ int main(void)
         try_written("rewrite", matchdesk_rewrite, sealed[i].image, unchanged);
         try_written("rewrite_fuller", matchdesk_rewrite_fuller, sealed[i].image, unchanged);
     }
+    for (size_t i = 0; i < sizeof released / sizeof *released; i++)
+        try_released(&released[i]);
+    for (size_t i = 0; i < sizeof unframed / sizeof *unframed; i++)
+        try_unframed(unframed[i]);
+    each_image(try_image);
+    release.length = release.bytes = release.images = 0;
+    each_image(add_image);
+    try_release("the images of all tables");
     for (size_t i = 0; i < sizeof paged / sizeof *paged; i++) {
         size_t bytes = lines(paged[i].lines, sizeof paged[i].lines / sizeof *paged[i].lines, expected);
         try_pages(paged[i].image, expected, bytes);

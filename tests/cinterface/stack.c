@@ -10,8 +10,9 @@
 #define PAINT 0xA5
 
 static unsigned char stack[1 << 20] __attribute__((aligned(4096)));
-static unsigned char image[LONGEST], packed[LONGEST], out[MATCHDESK_MAX_PAGES];
-static size_t length, packed_length, number, first, second;
+static unsigned char image[LONGEST], packed[LONGEST], release[3 * (MATCHDESK_RELEASE_LENGTH + LONGEST)], out[MATCHDESK_MAX_PAGES];
+static unsigned char answers[3 * MATCHDESK_RELEASE_ANSWER];
+static size_t length, packed_length, release_length, number, first, second;
 static int32_t wanted, factor, other;
 static ucontext_t host, guest;
 
@@ -23,6 +24,7 @@ static void crystalfold(void) { number = matchdesk_crystalfold(image, length, ou
 static void rewrite(void) { number = matchdesk_rewrite(image, length, out, sizeof out, &first, &second); }
 static void rewrite_fuller(void) { number = matchdesk_rewrite_fuller(image, length, out, sizeof out, &first, &second); }
 static void rewrite_until_rest(void) { number = matchdesk_rewrite_until_rest(image, length, out, sizeof out, &first, &second); }
+static void rewrite_release(void) { number = matchdesk_rewrite_release(release, release_length, out, sizeof out, answers, sizeof answers, &first, &second); }
 static void pages(void) { number = matchdesk_pages(image, length, out, sizeof out, &first, &second); }
 static void pack(void) { number = matchdesk_pack(image, length, out, sizeof out, &first, &second); }
 static void unpack(void) { number = matchdesk_unpack(packed, packed_length, out, sizeof out, &first, &second); }
@@ -38,7 +40,8 @@ struct function {
 
 static const struct function functions[] = {
     {"image_check", image_check, 1}, {"site_check", site_check, 1}, {"sealing_check", sealing_check, 1}, {"cleanup", cleanup, 1},
-    {"crystalfold", crystalfold, 1}, {"rewrite", rewrite, 1}, {"rewrite_fuller", rewrite_fuller, 1}, {"pages", pages, 1}, {"pack", pack, 1}, {"unpack", unpack, 32},
+    {"crystalfold", crystalfold, 1}, {"rewrite", rewrite, 1}, {"rewrite_fuller", rewrite_fuller, 1}, {"rewrite_release", rewrite_release, 33},
+    {"pages", pages, 1}, {"pack", pack, 1}, {"unpack", unpack, 32},
 };
 
 /* This one has memory for an image. */
@@ -72,6 +75,25 @@ static void pack_image(void)
     size_t bytes;
     if (length % MATCHDESK_CELL == 0 && matchdesk_pack(image, length, packed, sizeof packed, &bytes, &second) == 0)
         packed_length = bytes;
+}
+
+static void add_to_release(size_t bytes)
+{
+    unsigned char frame[MATCHDESK_RELEASE_LENGTH] = {(unsigned char)bytes, (unsigned char)(bytes >> 8), (unsigned char)(bytes >> 16), 0};
+    memcpy(release + release_length, frame, sizeof frame);
+    memcpy(release + release_length + sizeof frame, image, bytes);
+    release_length += sizeof frame + bytes;
+}
+
+/* What is released: the image, one byte, which is refused, and the image again; and one byte where the image is that. */
+static void release_image(void)
+{
+    release_length = 0;
+    add_to_release(length);
+    add_to_release(1);
+    add_to_release(length);
+    if (length % MATCHDESK_CELL != 0)
+        release_length = length;
 }
 
 static size_t used(void (*call)(void))
@@ -115,6 +137,7 @@ static size_t deepest_of_images(const struct function *f)
         else
             many_sites();
         pack_image();
+        release_image();
         size_t bytes = used(f->call);
         if (number != (i == 1 ? f->refusal : 0)) {
             printf("stack: %s answers %zu %zu %zu on image %zu\n", f->name, number, first, second, i);
