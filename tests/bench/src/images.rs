@@ -177,9 +177,13 @@ fn write_sites() -> Vec<u8> {
     })
 }
 
-/// Random functions of 60 instructions, good sites and all commands among them.
 pub fn mixed() -> Vec<u8> {
-    let mut random = Random::new(1);
+    mixed_by(1)
+}
+
+/// Random functions of 60 instructions, good sites and all commands among them, by a seed.
+pub fn mixed_by(seed: u64) -> Vec<u8> {
+    let mut random = Random::new(seed);
     let shape =
         Shape { instrs: 60, sites: 10, control: 10, actions: 20, misfits: 15, one_place: true };
     fill(|left| {

@@ -1,11 +1,14 @@
 //! Times the original's `run_default_opt_passes` and, with the feature `library`,
 //! the proved rewrites and pages on the same images, in one process; the proved packed form beside
-//! the image check; the proved sealing check beside the site check; and the proved factors.
+//! the image check; the proved sealing check beside the site check; the proved rewrite of a release
+//! beside the rewrites of its images; and the proved factors.
 
 mod factors;
 mod images;
 #[cfg(feature = "library")]
 mod packed;
+#[cfg(feature = "library")]
+mod release;
 #[cfg(feature = "library")]
 mod sealing;
 #[cfg(feature = "library")]
@@ -24,7 +27,7 @@ const TIME: Duration = Duration::from_millis(400);
 
 const USAGE: &str = "\
 usage: [--milliseconds N], or with the library: --packed [--milliseconds N],
-       --sealing [--milliseconds N], --search [sealing] SEED SECONDS";
+       --sealing [--milliseconds N], --release [--milliseconds N], --search [sealing] SEED SECONDS";
 
 fn wrong_use() -> ! {
     eprintln!("{USAGE}");
@@ -50,6 +53,8 @@ fn main() -> ExitCode {
             sealing::rows(time(rest));
             true
         }
+        #[cfg(feature = "library")]
+        ["--release", rest @ ..] => release::rows(time(rest)),
         words => all(time(words)),
     };
     ExitCode::from(!hold as u8)
@@ -75,7 +80,7 @@ fn time(words: &[&str]) -> Duration {
     }
 }
 
-/// All tables, and whether the bound on one of them holds.
+/// All tables, and whether the bounds on some of them hold.
 fn all(time: Duration) -> bool {
     println!("ns for one image, the fastest of many rounds; outputs are lent once and not cleared");
     let image = vec![0x5A; MAX_IMAGE];
@@ -114,6 +119,8 @@ fn all(time: Duration) -> bool {
     let hold = packed::rows(time);
     #[cfg(feature = "library")]
     sealing::rows(time);
+    #[cfg(feature = "library")]
+    let hold = release::rows(time) && hold;
     #[cfg(not(feature = "library"))]
     let hold = true;
     factors::rows(time);
@@ -233,6 +240,16 @@ fn measure<P, R>(
         drop(result);
     }
     fastest
+}
+
+/// Says whether the largest ratio, that of the row named with it, is within its limit.
+#[cfg(feature = "library")]
+fn verdict(what: &str, (name, ratio): (&str, f64), most: f64) -> bool {
+    let holds = ratio <= most;
+    let judged = if holds { "as it must be" } else { "which it must not be" };
+    let side = if holds { "at most" } else { "above" };
+    println!("{what}: the largest ratio is {ratio:.3} ({name}), {side} {most}, {judged}");
+    holds
 }
 
 /// How many cells a round has at least: a smaller image is taken so many times.

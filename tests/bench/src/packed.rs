@@ -1,7 +1,7 @@
 //! Times the packed form (document 02, W8): `pack` and `unpack` beside the image check of the
 //! same image.
 
-use crate::{by_turns, images, output, APART};
+use crate::{by_turns, images, output, verdict, APART};
 use differential::answers::{Operations, Reply};
 use differential::cells::{self, MAX_EVENTS, MAX_INSTRS};
 use differential::generate::{self, event, filled, label, load_i32, store_var};
@@ -53,16 +53,9 @@ pub fn rows(time: Duration) -> bool {
         }
     }
     println!("the last two columns: the time divided by the image check's");
-    let verdict = |(function, (name, ratio)): (&str, (&str, f64))| {
-        let holds = ratio <= MOST;
-        let judged = if holds { "as it must be" } else { "which it must not be" };
-        let side = if holds { "at most" } else { "above" };
-        println!("{function}: the largest ratio is {ratio:.3} ({name}), {side} {MOST}, {judged}");
-        holds
-    };
-    let verdicts = ["pack", "unpack"].into_iter().zip(largest).map(verdict);
+    let [pack, unpack] = largest;
     // Both are said, whether the first holds or not.
-    verdicts.fold(true, |all, holds| all & holds)
+    verdict("pack", pack, MOST) & verdict("unpack", unpack, MOST)
 }
 
 fn each_command_once() -> Vec<u8> {

@@ -52,6 +52,19 @@ mod linked {
         matchdesk_unpack
     }
     declared! {
+        (
+            release: *const u8,
+            length: usize,
+            out: *mut u8,
+            out_length: usize,
+            answers: *mut u8,
+            answers_length: usize,
+            first: *mut usize,
+            second: *mut usize
+        ):
+        matchdesk_rewrite_release
+    }
+    declared! {
         (wanted: i32, factor: i32, other: *mut i32):
         matchdesk_factor_fx
         matchdesk_factor_i32
@@ -115,6 +128,26 @@ mod linked {
     }
 
     pub struct Library;
+
+    impl Library {
+        /// Document 02's rewrite of a whole release.
+        pub fn release(&self, release: &[u8], out: &mut [u8], answers: &mut [u8]) -> Reply {
+            let (mut first, mut second) = (UNSET, UNSET);
+            let number = unsafe {
+                matchdesk_rewrite_release(
+                    release.as_ptr(),
+                    release.len(),
+                    out.as_mut_ptr(),
+                    out.len(),
+                    answers.as_mut_ptr(),
+                    answers.len(),
+                    &mut first,
+                    &mut second,
+                )
+            };
+            Reply { number, first, second }
+        }
+    }
 
     impl Operations for Library {
         fn name(&self) -> &'static str {
