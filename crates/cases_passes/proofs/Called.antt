@@ -10,7 +10,7 @@ use Rattle.cells.specs.Bytes.{byte, word}
 use Rattle.cells.specs.Cells.{over}
 use Rattle.cells.proofs.Over.{copied}
 use Rattle.cases_passes.specs.Operations.{askedBy, answer, output}
-use Rattle.cases_passes.specs.Rows.{marks, lent, Agrees, replyIn, roomIn, Fits, HoldsAs, Holds}
+use Rattle.cases_passes.specs.Rows.{marks, lent, Agrees, replyIn, roomIn, answersIn, Fits, HoldsAs, Holds}
 use Rattle.cases_passes.specs.declared.operation.Operation.{Operation}
 use Rattle.cases_passes.specs.declared.operation.Asked.{Asked}
 use Rattle.cases_passes.specs.declared.operation.Asked.the-variants.{Run, Unknown}
@@ -37,14 +37,14 @@ agreed o s want out model got r n m x y e a b f g =
 
 -- ---- a head
 
-module _ (h s want : List ℕ) (a : Asked) (asked : a ≡ askedBy (byte h 0)) where
+module _ (h s want : List ℕ) (n : ℕ) (en : n ≡ answersIn h) (a : Asked) (asked : a ≡ askedBy (byte h 0) n) where
   holds-as : Holds h s want → HoldsAs a h s want
   unfolding Holds
-  holds-as p = rw asked p
+  holds-as p = rw (asked, en) p
 
   as-holds : HoldsAs a h s want → Holds h s want
   unfolding Holds
-  as-holds p = rw asked at p
+  as-holds p = rw (asked, en) at p
 
   refused : (r : Bool) → r ≡ false → (HoldsAs a h s want → ⊥) → (r ≡ true) ↔ Holds h s want
   refused r e f = rw e (no (λ (p : Holds h s want). f (holds-as p)))
@@ -65,17 +65,21 @@ module _ (h s want : List ℕ) (a : Asked) (asked : a ≡ askedBy (byte h 0)) wh
     pub too-long : (r : Bool) → r ≡ false → room < e .length → (r ≡ true) ↔ Holds h s want
     too-long r d k = refused r d (λ (p : HoldsAs a h s want). omega (arith, fits p .short, length-in, er))
 
+    pub cut-past : (r : Bool) → r ≡ false → room < n → (r ≡ true) ↔ Holds h s want
+    cut-past r d k = refused r d (λ (p : HoldsAs a h s want). omega (arith, fits p .cut, en, er))
+
     pub not-given : (r : Bool) → r ≡ false → length want < e .length → (r ≡ true) ↔ Holds h s want
     not-given r d k = refused r d (λ (p : HoldsAs a h s want). omega (arith, fits p .given, length-in))
 
-    pub held : (r : Bool) → room ≤ 242440 → e .length ≤ room → e .length ≤ length want → (r ≡ true) ↔ Agrees o s (take (e .length) want) e room (room + 64)
+    pub held : (r : Bool) → room ≤ 242440 → e .length ≤ room → n ≤ room → e .length ≤ length want → (r ≡ true) ↔ Agrees o s (take (e .length) want) e room (room + 64)
         → (r ≡ true) ↔ Holds h s want
-    held r i j k f =
+    held r i j c k f =
         let i′ : roomIn h ≤ 242440 = omega (arith, er) in
         let j′ : word h 12 ≤ roomIn h = omega (arith, length-in, er) in
+        let c′ : answersIn h ≤ roomIn h = omega (arith, en, er) in
         let k′ : word h 12 ≤ length want = omega (arith, length-in) in
         through r f
-        (λ (g : Agrees o s (take (e .length) want) e room (room + 64)). as-holds (rw known (record { room = i′; short = j′; given = k′; agrees = rw (ee, er) at g })))
+        (λ (g : Agrees o s (take (e .length) want) e room (room + 64)). as-holds (rw known (record { room = i′; short = j′; cut = c′; given = k′; agrees = rw (ee, er) at g })))
         (λ (p : Holds h s want). rw (ee, er) (fits (holds-as p) .agrees))
 
 -- ---- in the buffers

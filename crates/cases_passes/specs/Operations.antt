@@ -1,9 +1,11 @@
 -- Inner: the operations of documents 01 and 02 by their bytes in a file of cases (tests/images/README.md), what each answers by their
 -- numbers, and what it leaves in a lent output.
-use Prim.Native.Nat.{ℕ}
-use mathlib.Core.List.{List}
+use Prim.Native.Nat.{ℕ, _+_, _*_, _-_}
+use mathlib.Core.List.{List, _++_}
+use mathlib.Core.Option.{Option, none, some}
 use mathlib.Core.Bool.{Bool, false, cond}
 use lib.Dec.{eqb}
+use lib.ListN.{length, take, drop}
 use Rattle.cells.specs.Lists.{one}
 use Rattle.cells.specs.Refusals.{numbered, numbersOf}
 use Rattle.cells.specs.declared.refusal.Numbers.{Numbers}
@@ -22,19 +24,24 @@ use Rattle.passes.specs.Passes.{passAnswer, passOutput}
 use Rattle.passes.specs.declared.Pass.the-variants.{Cleanup as CleanupPass, CrystalFold as CrystalFoldPass, Both}
 use Rattle.passes.specs.declared.Rewrite.{Rewrite}
 use Rattle.passes.specs.declared.Rewrite.the-variants.{Written, Refused}
+use Rattle.release.specs.Frames.{Image, imagesOf}
+use Rattle.release.specs.Release.{releaseAnswer, releaseOutput, releaseAnswers}
+use Rattle.release.specs.declared.Released.{Released}
+use Rattle.release.specs.declared.Released.the-variants.{Written as WrittenRelease, Refused as RefusedRelease}
 use Rattle.rest.specs.Rounds.{restAnswer, restOutput}
 use Rattle.sealing.specs.Contracts.{repeatNumber}
 use Rattle.sealing.specs.Sealing.{sealingAnswer}
 use Rattle.sealing.specs.declared.Sealing.{Sealing}
 use Rattle.sealing.specs.declared.Sealing.the-variants.{Good as Sealable, Refused as RefusedSealing, Repeated}
 use Rattle.cases_passes.specs.declared.operation.Operation.{Operation}
-use Rattle.cases_passes.specs.declared.operation.Operation.the-variants.{ImageCheck, SiteCheck, Cleanup, CrystalFold, Default, Fuller, Pages, Pack, Unpack, Rest, Seal}
+use Rattle.cases_passes.specs.declared.operation.Operation.the-variants.{ImageCheck, SiteCheck, Cleanup, CrystalFold, Default, Fuller, Pages, Pack, Unpack, Rest, Seal, Release}
 use Rattle.cases_passes.specs.declared.operation.Asked.{Asked}
 use Rattle.cases_passes.specs.declared.operation.Asked.the-variants.{Run, Unknown}
 use Rattle.cases_passes.specs.declared.operation.Reply.{Reply}
 
-unfoldable pub askedBy : ℕ → Asked
-askedBy n =
+-- by the byte n; k goes with a release
+unfoldable pub askedBy : ℕ → ℕ → Asked
+askedBy n k =
     cond (eqb n 16) (Run ImageCheck)
     (cond (eqb n 17) (Run SiteCheck)
     (cond (eqb n 18) (Run Cleanup)
@@ -45,7 +52,8 @@ askedBy n =
     (cond (eqb n 23) (Run Pack)
     (cond (eqb n 24) (Run Unpack)
     (cond (eqb n 25) (Run Rest)
-    (cond (eqb n 26) (Run Seal) Unknown))))))))))
+    (cond (eqb n 26) (Run Seal)
+    (cond (eqb n 27) (Run (Release k)) Unknown)))))))))))
 
 -- "success gives the length written and the report"; "the two checks .. on success answer only that"
 abbrev pub goodReply : ℕ → ℕ → Bool → Reply
@@ -77,7 +85,26 @@ packingReply (Bytes n) = goodReply n 0 false
 packingReply (RefusedPacking x) = refusedReply (numbersOf x)
 packingReply (Ends position detail) = refusedReply (numbered 32 position detail)
 
--- on s, an image or, for `unpack`, a packed form, lent n bytes
+-- ---- a release s: the lent bytes, of which there are n, are cut at c, and those behind are the answers' buffer
+
+abbrev pub imagesIn : Option (List Image) → ℕ
+imagesIn none = 0
+imagesIn (some is) = length is
+
+-- "success answers the length written to the output"; the reply's `length` is where the answers end, 12 bytes an image
+abbrev pub releaseReply : ℕ → Option (List Image) → Released → Reply
+releaseReply c is (WrittenRelease n) = goodReply (c + 12 * imagesIn is) n false
+releaseReply c is RefusedRelease = refusedReply (numbered 33 0 0)
+
+unfoldable pub partsReply : List ℕ → ℕ → ℕ → Reply
+partsReply s c n = releaseReply c (imagesOf s) (releaseAnswer s c (n - c))
+
+unfoldable pub partsOutput : List ℕ → ℕ → List ℕ → List ℕ
+partsOutput s c before = releaseOutput s (take c before) (length before - c) ++ releaseAnswers s c (drop c before)
+
+-- ---- every operation
+
+-- on s, an image, for `unpack` a packed form, or a release, lent n bytes
 abbrev pub answer : Operation → List ℕ → ℕ → Reply
 answer ImageCheck s n = checkReply (imageAnswer s)
 answer SiteCheck s n = checkReply (siteAnswer s)
@@ -90,6 +117,7 @@ answer Pack s n = packingReply (answerOf (packResult s) n)
 answer Unpack s n = packingReply (answerOf (unpackResult s) n)
 answer Rest s n = rewriteReply (restAnswer DefaultRules s n)
 answer Seal s n = sealingReply (sealingAnswer s)
+answer (Release k) s n = partsReply s (n - k) n
 
 -- what the lent bytes then are; "the two checks write nothing", nor does the sealing check
 abbrev pub output : Operation → List ℕ → List ℕ → List ℕ
@@ -104,3 +132,4 @@ output Pack s before = outputOf (packResult s) before
 output Unpack s before = outputOf (unpackResult s) before
 output Rest s before = restOutput DefaultRules s before
 output Seal s before = before
+output (Release k) s before = partsOutput s (length before - k) before

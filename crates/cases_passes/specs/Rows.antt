@@ -34,10 +34,15 @@ replyIn h = record { number = byte h 1; position = half h 2; detail = word h 4; 
 abbrev pub roomIn : List ℕ → ℕ
 roomIn h = word h 8
 
+-- how many of these bytes are for the answers to a release
+abbrev pub answersIn : List ℕ → ℕ
+answersIn h = half h 22
+
 -- the call fits the buffers, and the operation agrees
 pub record Fits (o : Operation) (h s want : List ℕ) : Type 0 where
   pub room : roomIn h ≤ 242440
   pub short : word h 12 ≤ roomIn h
+  pub cut : answersIn h ≤ roomIn h
   pub given : word h 12 ≤ length want
   pub agrees : Agrees o s (take (word h 12) want) (replyIn h) (roomIn h) (roomIn h + 64)
 
@@ -46,4 +51,4 @@ HoldsAs (Run o) h s want = Fits o h s want
 HoldsAs Unknown h s want = ⊥
 
 unfoldable pub Holds : List ℕ → List ℕ → List ℕ → Type 0
-Holds h s want = HoldsAs (askedBy (byte h 0)) h s want
+Holds h s want = HoldsAs (askedBy (byte h 0) (answersIn h)) h s want

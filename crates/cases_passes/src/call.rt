@@ -20,7 +20,8 @@ pub const HEAD: usize = 24;
 pub fn holds(head: &[u8; HEAD], name: &[u8], image: &[u8], want: &[u8]) -> bool
     ensures { λ r. ⌜ (r ≡ true) ↔ Holds (now (head .entry)) (now (image .entry)) (now (want .entry)) ⌝ }
 {
-    let asked = operation::asked_by(head[0]);
+    let answers = read::half(head, 22);
+    let asked = operation::asked_by(head[0], answers as u16);
     let Asked::Run(operation) = asked else {
         return malformed(name);
     };
@@ -31,6 +32,9 @@ pub fn holds(head: &[u8; HEAD], name: &[u8], image: &[u8], want: &[u8]) -> bool
         return malformed(name);
     }
     if room < n {
+        return malformed(name);
+    }
+    if room < answers {
         return malformed(name);
     }
     if want.len() < n {

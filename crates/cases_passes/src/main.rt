@@ -3,6 +3,7 @@
 mod call;
 mod lent;
 mod operation;
+mod parts;
 mod records;
 mod runs;
 

@@ -5,6 +5,7 @@ ghost use mathlib.Core.Bool.{true};
 ghost use lib.ListN.{length};
 ghost use Rattle.cells.specs.Lists.{one};
 ghost use Rattle.cases_passes.specs.Operations.{askedBy, goodReply, refusedReply, checkReply, sealingReply, rewriteReply, pagesReply, packingReply, answer, output};
+use crate::parts;
 use cells::refusal::Checked;
 use cells::refusal::Numbers;
 use cells::refusal::numbers_of;
@@ -26,6 +27,8 @@ pub enum Operation {
     Unpack,
     Rest,
     Seal,
+    // The last so many of the lent bytes are the answers' buffer.
+    Release(u16),
 }
 
 // What a byte asks for.
@@ -44,8 +47,9 @@ pub struct Reply {
     pub changed: usize,
 }
 
-pub fn asked_by(byte: u8) -> Asked
-    ensures { λ r. ⌜ r ≡ askedBy byte ⌝ }
+// `answers` goes with a release.
+pub fn asked_by(byte: u8, answers: u16) -> Asked
+    ensures { λ r. ⌜ r ≡ askedBy byte answers ⌝ }
 {
     match byte {
         16 => Asked::Run(Operation::ImageCheck),
@@ -59,11 +63,12 @@ pub fn asked_by(byte: u8) -> Asked
         24 => Asked::Run(Operation::Unpack),
         25 => Asked::Run(Operation::Rest),
         26 => Asked::Run(Operation::Seal),
+        27 => Asked::Run(Operation::Release(answers)),
         _ => Asked::Unknown,
     }
 }
 
-// Runs an operation on an image, or on a packed form, and a lent output.
+// Runs an operation on an image, a packed form or a release, and a lent output.
 pub fn run(operation: Operation, image: &[u8], out: &mut [u8]) -> Reply
     ensures { λ r. ⌜ r ≡ answer operation (now (image .entry)) (length (now (out .entry))) ⌝ }
     ensures { λ _. ⌜ now (out .exit) ≡ output operation (now (image .entry)) (now (out .entry)) ⌝ }
@@ -80,6 +85,7 @@ pub fn run(operation: Operation, image: &[u8], out: &mut [u8]) -> Reply
         Operation::Unpack => of_packing(packed::unpack(image, out)),
         Operation::Rest => of_rewrite(rest::rewrite_until_rest(image, out)),
         Operation::Seal => of_sealing(sealing::sealing_check(image)),
+        Operation::Release(k) => parts::rewrite_release(image, k, out),
     }
 }
 
@@ -143,7 +149,7 @@ fn of_packing(r: Packing) -> Reply
     }
 }
 
-fn good(length: usize, rewrites: usize, changed: bool) -> Reply
+pub fn good(length: usize, rewrites: usize, changed: bool) -> Reply
     ensures { λ t. ⌜ t ≡ goodReply length rewrites changed ⌝ }
 {
     Reply {
@@ -156,7 +162,7 @@ fn good(length: usize, rewrites: usize, changed: bool) -> Reply
     }
 }
 
-fn refused(n: Numbers) -> Reply
+pub fn refused(n: Numbers) -> Reply
     ensures { λ t. ⌜ t ≡ refusedReply n ⌝ }
 {
     Reply {

@@ -53,6 +53,9 @@ returns-10 c =
 returns-11 : tie.Need-returns-11
 returns-11 c = simp (c .of-sealing .ensures, c .before .sealing-check .ensures .answer, c .before .before .enum-told11 .given .1) (refl, refl)
 
+returns-12 : tie.Need-returns-12
+returns-12 c = rw (c .before .before .before .before .before .operation .given .1) (c .before .before .rewrite-release .ensures)
+
 pub run-spec : {M : Type 1} → statement M
 run-spec =
     tie.close
@@ -90,6 +93,8 @@ run-spec =
     (λ c. search needs)
     (λ c κs. search needs)
     (λ c κs. search needs)
+    (λ c. search needs)
+    (λ c κs. search needs)
     returns
     returns-2
     (λ c. search needs)
@@ -108,4 +113,6 @@ run-spec =
     returns-9
     (λ c. search needs)
     returns-10
-    returns-11)
+    returns-11
+    (λ c. search needs)
+    returns-12)
