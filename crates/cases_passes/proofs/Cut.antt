@@ -10,9 +10,8 @@ use lib.Dec.{leb}
 use lib.ListN.{length, take, drop, length-append, length-take, length-drop, drop-of-length-le}
 use lib.Seq.{take-length, take-all, take-append-seam}
 use Rattle.cells.specs.Refusals.{numbered}
-use Rattle.release.specs.Frames.{Image, imagesOf}
+use Rattle.release.specs.Frames.{Image, imagesOf, countAs}
 use Rattle.release.specs.Release.{withRoom, admitted, answerAs, releaseAnswer, releaseOutput, releaseAnswers}
-use Rattle.release.specs.Steps.{countAs}
 use Rattle.release.specs.declared.Framing.the-variants.{PastEnd, Images}
 use Rattle.release.specs.declared.Released.{Released}
 use Rattle.release.specs.declared.Released.the-variants.{Written, Refused}

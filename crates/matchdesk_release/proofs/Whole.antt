@@ -12,11 +12,10 @@ use Rattle.cells.specs.Bytes.{word}
 use Rattle.cells.proofs.Facts.{by-test}
 use Rattle.release.specs.Frames.{Image, frame, imagesOf, countAs}
 use Rattle.release.specs.Release.{handedBack}
-use Rattle.release.specs.declared.Framing.{Framing}
 use Rattle.release.specs.declared.Framing.the-variants.{PastEnd, Images}
 use Rattle.release.proofs.Frames.{Next, next-whole}
 use Rattle.release.proofs.Images.{no-images, some-images}
-use Rattle.matchdesk_release.specs.Program.{maxRelease, imageTexts, imagesTexts, textsAs, refusedTexts, programTexts, OutputReleased, LongInputs}
+use Rattle.matchdesk_release.specs.Program.{maxRelease, imageTexts, refusedTexts, programTexts, OutputReleased, LongInputs}
 use Rattle.matchdesk_release.specs.Contracts.{isNone, isRefused, Framed}
 
 pub output-released : OutputReleased

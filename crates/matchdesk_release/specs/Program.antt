@@ -1,7 +1,7 @@
 -- Promise: what `./matchdesk release` writes to standard output and to standard error (document 02, W9): the framed output, and a line an image; or
 -- 33 alone. Its buffers are always long enough, so that only the framing and the length of the input decide.
 use mathlib.Core.Path.{_≡_}
-use mathlib.Core.Bool.{Bool, true, false, cond}
+use mathlib.Core.Bool.{cond}
 use mathlib.Core.List.{List, [], _∷_, _++_}
 use mathlib.Core.Option.{Option, none, some}
 use Prim.Native.Nat.{ℕ, suc, _<_}

@@ -1,8 +1,8 @@
 -- One image of a release: the rewrite of it in its place is the rewrite of it alone.
-use mathlib.Core.Path.{_≡_, refl, sym, _∙_, ap, ap₂}
-use mathlib.Core.List.{List, [], _∷_, _++_, append-nil}
+use mathlib.Core.Path.{_≡_, refl, sym, _∙_, ap}
+use mathlib.Core.List.{List, [], _++_, append-nil}
 use mathlib.Core.Bool.{true, true≢false}
-use Prim.Native.Nat.{ℕ, _+_, _-_, _*_, _≤_, _<_, min}
+use Prim.Native.Nat.{ℕ, _+_, _-_, _≤_, min}
 use native.Mathlib.Omega.{arith}
 use borrow.Author.Tests.{le-leb, leb-true}
 use lib.Dec.{eqb, leb}
@@ -23,8 +23,7 @@ use Rattle.image.specs.Image.{goodLength}
 use Rattle.passes.specs.Contracts.{lengthWritten}
 use Rattle.passes.specs.Passes.{passBytes, passCount, passCheck, answerAs, outputAs, passAnswer, passOutput}
 use Rattle.passes.specs.declared.Pass.the-variants.{Both}
-use Rattle.passes.specs.declared.Rewrite.{Rewrite}
-use Rattle.passes.specs.declared.Rewrite.the-variants.{Written, Refused}
+use Rattle.passes.specs.declared.Rewrite.the-variants.{Refused}
 use Rattle.passes.proofs.Done.{check-good, bytes-shorter, pass-few}
 use Rattle.release.specs.Frames.{Image, frame}
 use Rattle.release.specs.Release.{outcome, backAs, handedBack, numbersAs}

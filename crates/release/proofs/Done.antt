@@ -1,7 +1,7 @@
 -- The promises of `rewrite_release` follow from the answer and the bytes of both buffers.
 use mathlib.Core.Path.{_≡_, refl, sym, _∙_, ap, ap₂}
 use mathlib.Core.Logic.{_↔_}
-use mathlib.Core.List.{List, [], _∷_, _++_, append-nil, append-assoc, map}
+use mathlib.Core.List.{List, [], _∷_, _++_, map}
 use mathlib.Core.Bool.{Bool, true, false, cond, true≢false}
 use mathlib.Core.Option.{Option, none, some}
 use Prim.Native.Nat.{ℕ, zero, suc, _+_, _*_, _≤_, _<_, min}
@@ -10,15 +10,12 @@ use borrow.Author.Tests.{leb-true}
 use lib.Dec.{leb}
 use lib.ListN.{length, take, drop, getD, length-append}
 use lib.Seq.{drop-drop}
-use Rattle.cells.specs.Cells.{cells, over}
+use Rattle.cells.specs.Cells.{over}
 use Rattle.cells.specs.Check.{maxImage}
-use Rattle.cells.specs.Functions.{functions}
 use Rattle.cells.proofs.Facts.{by-test}
 use Rattle.cells.proofs.Over.{over-take}
-use Rattle.crystalfold.specs.Rules.{rulesOf}
 use Rattle.crystalfold.specs.declared.rules.RuleSet.the-variants.{Default}
-use Rattle.rewrite.specs.Claim.{Rewritten}
-use Rattle.passes.specs.Contracts.{Each, RewriteDone, lengthWritten as lengthAlone}
+use Rattle.passes.specs.Contracts.{RewriteDone, lengthWritten as lengthAlone}
 use Rattle.passes.specs.declared.Pass.the-variants.{Both}
 use Rattle.passes.specs.declared.Rewrite.{Rewrite}
 use Rattle.passes.proofs.Done.{pass-done, rewrite-done}
@@ -27,7 +24,6 @@ use Rattle.release.specs.Release.{handedBack, numbersAs, threeNumbers, a
 use Rattle.release.specs.Contracts.{replyOf, isWritten, lengthWritten, Admissible, answerAlone, outputAlone, AsAlone, HandedBack, ReleaseDone}
 use Rattle.release.specs.Claim.{NeighboursStay, ReleasesJoin}
 use Rattle.release.specs.declared.Released.{Released}
-use Rattle.release.specs.declared.Released.the-variants.{Written, Refused}
 use Rattle.release.proofs.Alone.{back-length, back-shorter, same-answer, same-output}
 use Rattle.release.proofs.Frames.{Byte, framed-bytes, read-back}
 use Rattle.release.proofs.Images.{framed-append, released-append, answers-append, are-admitted}

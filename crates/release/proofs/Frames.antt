@@ -1,19 +1,19 @@
 -- How a release is read: image by image, from any place on; what is framed is read back, and nothing else is.
 use mathlib.Core.Path.{_≡_, refl, sym, _∙_, ap, ap₂}
 use mathlib.Core.List.{List, [], _∷_, _++_, append-assoc}
-use mathlib.Core.Bool.{Bool, true, false, cond}
+use mathlib.Core.Bool.{Bool, cond}
 use mathlib.Core.Option.{Option, none, some}
 use Prim.Native.Nat.{ℕ, zero, suc, _+_, _-_, _*_, _/_, _%_, _≤_, _<_}
 use native.Mathlib.Omega.{arith}
 use borrow.Author.Tests.{eq-eqb, ne-eqb, le-leb, lt-leb, leb-true, leb-false}
-use lib.Dec.{eqb, leb}
+use lib.Dec.{leb}
 use lib.ListN.{length, take, drop, getD, length-append, length-drop, take-append-drop}
-use lib.Seq.{take-append-seam, drop-append-seam, length-take-le, drop-drop, getD-drop, append-snoc, take-length}
-use Rattle.cells.specs.Bytes.{byte, half, word, bytes}
+use lib.Seq.{take-append-seam, drop-append-seam, length-take-le, drop-drop, getD-drop}
+use Rattle.cells.specs.Bytes.{byte, word, bytes}
 use Rattle.cells.specs.Lists.{All}
 use Rattle.cells.proofs.Facts.{by-test, eqb-true}
 use Rattle.cells.proofs.Lists.{nothing-in}
-use Rattle.release.specs.Frames.{Image, frame, framed, ends, firstImage, behindFirst, join, atEnd, imagesWithin, imagesOf}
+use Rattle.release.specs.Frames.{Image, framed, ends, firstImage, behindFirst, join, atEnd, imagesWithin, imagesOf}
 use Rattle.release.specs.Claim.{ReadBack, OnlyFramed}
 
 -- ---- the limit on their number decides nothing

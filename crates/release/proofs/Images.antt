@@ -1,24 +1,21 @@
 -- The images of a release one after another: what is written of all of them, and how the loop goes.
-use mathlib.Core.Path.{_≡_, refl, sym, _∙_, ap, ap₂}
-use mathlib.Core.List.{List, [], _∷_, _++_, append-assoc, append-nil, map}
+use mathlib.Core.Path.{_≡_, refl, sym, _∙_, ap}
+use mathlib.Core.List.{List, [], _∷_, _++_, append-assoc, append-nil}
 use mathlib.Core.Bool.{Bool, true, false, cond}
 use mathlib.Core.Option.{Option, none, some}
-use Prim.Native.Nat.{ℕ, _+_, _-_, _*_, _≤_, _<_, min}
+use Prim.Native.Nat.{ℕ, _+_, _-_, _*_, _≤_, _<_}
 use native.Mathlib.Omega.{arith}
-use borrow.Author.Tests.{le-leb, lt-leb, leb-true}
+use borrow.Author.Tests.{le-leb, lt-leb}
 use lib.Dec.{leb}
 use lib.ListN.{length, take, drop, length-append, length-take, length-drop}
-use lib.Seq.{length-take-le, take-all}
+use lib.Seq.{length-take-le}
 use Rattle.cells.specs.Bytes.{word}
 use Rattle.cells.specs.Cells.{over}
-use Rattle.cells.specs.Check.{maxImage}
-use Rattle.cells.proofs.Facts.{by-test}
 use Rattle.cells.proofs.Over.{length-over, over-part, over-nil}
 use Rattle.release.specs.Frames.{Image, frame, framed, imagesOf, countAs}
 use Rattle.release.specs.Release.{handedBack, answerTo, released, answersTo, withRoom, admitted, answerAs, bufferAs, releaseAnswer, releaseOutput, releaseAnswers}
 use Rattle.release.specs.Steps.{Place, Placed, Ready}
 use Rattle.release.specs.declared.Framing.the-variants.{PastEnd, Images}
-use Rattle.release.specs.declared.Released.{Released}
 use Rattle.release.specs.declared.Released.the-variants.{Written, Refused}
 use Rattle.release.proofs.Alone.{back-shorter}
 use Rattle.release.proofs.Frames.{imageAt, Next, next-whole, none-left}

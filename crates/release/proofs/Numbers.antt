@@ -1,12 +1,12 @@
 -- Each number of an answer has room in 4 bytes: positions and cells are fewer than an image's bytes, and a site has 4 bytes itself.
-use mathlib.Core.Path.{_≡_, refl, sym, _∙_, ap}
+use mathlib.Core.Path.{_≡_, refl, _∙_, ap}
 use mathlib.Core.List.{List, [], _∷_, _++_}
 use mathlib.Core.Bool.{Bool, true, false, cond, not, _&&_}
-use Prim.Native.Nat.{ℕ, zero, suc, _+_, _*_, _/_, _≤_, _<_}
+use Prim.Native.Nat.{ℕ, zero, suc, _+_, _/_, _≤_, _<_}
 use native.Mathlib.Omega.{arith}
 use borrow.Author.Tests.{le-leb, leb-true}
 use lib.Dec.{eqb, leb}
-use lib.ListN.{length, take, drop, getD, length-append}
+use lib.ListN.{length, take, drop, length-append}
 use Rattle.cells.specs.Answers.{orElse, unless, scan}
 use Rattle.cells.specs.Bytes.{byte, word}
 use Rattle.cells.specs.Cells.{Cell, cells, chunks}
@@ -16,8 +16,7 @@ use Rattle.cells.specs.Lists.{All}
 use Rattle.cells.specs.Refusals.{numbered, numbersOf}
 use Rattle.cells.specs.Table.{eventRow, headRow}
 use Rattle.cells.specs.declared.refusal.Numbers.{Numbers}
-use Rattle.cells.specs.declared.refusal.Refusal.{Refusal}
-use Rattle.cells.specs.declared.refusal.Refusal.the-variants.{Length, OutputTooShort, Operand, UnknownCommand, Head}
+use Rattle.cells.specs.declared.refusal.Refusal.the-variants.{Length, OutputTooShort}
 use Rattle.cells.specs.declared.refusal.Checked.{Checked}
 use Rattle.cells.specs.declared.refusal.Checked.the-variants.{Good, Refused}
 use Rattle.cells.specs.declared.walk.Part.{Part}

@@ -1,9 +1,9 @@
 -- Numbers of 4 bytes over the start of a buffer.
-use mathlib.Core.Path.{_≡_, refl, sym, _∙_, ap}
-use mathlib.Core.List.{List, [], _∷_, _++_}
-use Prim.Native.Nat.{ℕ, suc, _+_, _-_, _/_, _%_, _≤_}
+use mathlib.Core.Path.{_≡_, refl, _∙_, ap}
+use mathlib.Core.List.{List, [], _∷_}
+use Prim.Native.Nat.{ℕ, _-_, _/_, _%_, _≤_}
 use native.Mathlib.Omega.{arith}
-use lib.ListN.{length, take, drop, set}
+use lib.ListN.{length, set}
 use Rattle.cells.specs.Bytes.{bytes}
 use Rattle.cells.specs.Cells.{over}
 use Rattle.release.proofs.Frames.{four-cons}

@@ -6,7 +6,7 @@ use mathlib.Core.Option.{Option, none, some}
 use Prim.Native.Nat.{ℕ}
 use lib.ListN.{length, replicate}
 use Rattle.leaves.specs.Signed.{wrap, addI32}
-use Rattle.cells.specs.Assembler.{cell, Head, Label, Jmp, LoadI32, LoadBool, LoadQ, AddI32, QTruthNot, Ret, RetNothing, site, noSite, StoreVarSited, MakeRecord, Borrow, Write, function}
+use Rattle.cells.specs.Assembler.{cell, Head, Label, LoadI32, LoadBool, LoadQ, AddI32, QTruthNot, Ret, RetNothing, site, noSite, StoreVarSited, MakeRecord, Borrow, Write, function}
 use Rattle.cells.specs.Cells.{over}
 use Rattle.cells.specs.Check.{instructionCheck, eventCheck, headCheck}
 use Rattle.cells.specs.Functions.{functions}

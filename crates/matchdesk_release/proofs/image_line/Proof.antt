@@ -5,10 +5,6 @@ use Rattle.matchdesk_release.proofs.Lines.{place-short, place-within, a
 use borrow.Author.Needs.{needs}
 use Rattle.matchdesk_release.proofs.image_line.Statement.{statement}
 use Rattle.matchdesk_release.proofs.image_line.Tie as tie
-use Rattle.matchdesk_release.proofs.image_line.Reads as reads
-use Rattle.matchdesk_release.proofs.image_line.Lts as lts
-use Rattle.listing.proofs.put_field.Reads as put-field-reads
-use Rattle.matchdesk_release.proofs.put_answer.Reads as put-answer-reads
 
 abbrev start : tie.After-put-field → tie.Start
 start f = f .before .before .before

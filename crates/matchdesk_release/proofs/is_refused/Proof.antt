@@ -1,16 +1,14 @@
 -- `matchdesk_release::is_refused` meets its contract.
 use mathlib.Core.Path.{sym, _∙_}
+use native.Mathlib.Omega.{arith}
 use denote.Ref.{now}
 use Rattle.matchdesk_release.proofs.Whole.{too-long, past-end, has-images}
 use borrow.Author.Needs.{needs}
 use Rattle.matchdesk_release.proofs.is_refused.Statement.{statement}
 use Rattle.matchdesk_release.proofs.is_refused.Tie as tie
-use Rattle.matchdesk_release.proofs.is_refused.Reads as reads
-use Rattle.matchdesk_release.proofs.is_refused.Lts as lts
-use Rattle.release.proofs.count_images.Reads as count-images-reads
 
 returns : tie.Need-returns
-returns c = too-long (now (c .before .before .args .input)) (c .if1 .taken)
+returns c = too-long (now (c .before .before .args .input)) (omega (arith, c .if1 .taken))
 
 returns-2 : tie.Need-returns-2
 returns-2 c =

@@ -3,10 +3,6 @@ use Rattle.matchdesk_release.proofs.Lines.{by-number, by-refusal}
 use borrow.Author.Needs.{needs}
 use Rattle.matchdesk_release.proofs.put_answer.Statement.{statement}
 use Rattle.matchdesk_release.proofs.put_answer.Tie as tie
-use Rattle.matchdesk_release.proofs.put_answer.Reads as reads
-use Rattle.matchdesk_release.proofs.put_answer.Lts as lts
-use Rattle.listing.proofs.put_rewrites.Reads as put-rewrites-reads
-use Rattle.listing.proofs.put_refused.Reads as put-refused-reads
 
 returns : tie.Need-returns
 returns c =

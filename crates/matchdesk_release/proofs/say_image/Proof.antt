@@ -1,24 +1,17 @@
 -- `matchdesk_release::say_image` meets its contract.
-use mathlib.Core.Path.{_≡_, sym, _∙_, ap}
+use mathlib.Core.Path.{sym, _∙_, ap}
 use native.Mathlib.Omega.{arith}
 use denote.Ref.{now}
-use lib.ListN.{length}
 use Rattle.cells.specs.Bytes.{word}
-use Rattle.cells.specs.declared.refusal.Numbers.{Numbers}
 use Rattle.listing.specs.Contracts.{TextWritten}
 use Rattle.release.specs.Frames.{frame}
 use Rattle.release.specs.Release.{outcome, handedBack, numbersAs}
 use Rattle.release.proofs.Alone.{back-shorter}
-use Rattle.matchdesk_release.specs.Program.{imageTexts, imageLine}
+use Rattle.matchdesk_release.specs.Program.{imageTexts}
 use Rattle.matchdesk_release.proofs.Lines.{first-back, second-back, third-back, numbers-are, counted}
 use borrow.Author.Needs.{needs}
 use Rattle.matchdesk_release.proofs.say_image.Statement.{statement}
 use Rattle.matchdesk_release.proofs.say_image.Tie as tie
-use Rattle.matchdesk_release.proofs.say_image.Reads as reads
-use Rattle.matchdesk_release.proofs.say_image.Lts as lts
-use Rattle.release.proofs.place.rewrite_image.Reads as rewrite-image-reads
-use Rattle.cells.proofs.read.word.Reads as word-reads
-use Rattle.matchdesk_release.proofs.image_line.Reads as image-line-reads
 
 returns : tie.Need-returns
 unfolding imageTexts

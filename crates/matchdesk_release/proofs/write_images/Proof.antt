@@ -9,13 +9,6 @@ use Rattle.matchdesk_release.proofs.Whole.{Writing, writing-start, foll
 use borrow.Author.Needs.{needs}
 use Rattle.matchdesk_release.proofs.write_images.Statement.{statement}
 use Rattle.matchdesk_release.proofs.write_images.Tie as tie
-use Rattle.matchdesk_release.proofs.write_images.Reads as reads
-use Rattle.matchdesk_release.proofs.write_images.Lts as lts
-use Rattle.cells.proofs.read.word.Reads as word-reads
-use Rattle.io.proofs.write_all.Reads as write-all-reads
-use Rattle.matchdesk_release.proofs.frame_buffer.Reads as frame-buffer-reads
-use Rattle.matchdesk_release.proofs.line_buffer.Reads as line-buffer-reads
-use Rattle.matchdesk_release.proofs.say_image.Reads as say-image-reads
 
 abbrev Inv-loop : tie.InvT-loop
 Inv-loop release frame₀ line₀ at₀ place₀ frame line at place = Writing release frame line at place

@@ -10,9 +10,6 @@ use Rattle.release.proofs.Frames.{Counted, counted-start, counted-next,
 use borrow.Author.Needs.{needs}
 use Rattle.release.proofs.count_images.Statement.{statement}
 use Rattle.release.proofs.count_images.Tie as tie
-use Rattle.release.proofs.count_images.Reads as reads
-use Rattle.release.proofs.count_images.Lts as lts
-use Rattle.cells.proofs.read.word.Reads as word-reads
 
 abbrev Inv-loop : tie.InvT-loop
 Inv-loop release at₀ n₀ at n = Counted release at n

@@ -1,6 +1,5 @@
 -- `release::rewrite_images` meets its contract.
 use Prim.Native.Nat.{_+_, _-_, _≤_}
-use mathlib.Core.Path.{_≡_, sym, _∙_, ap}
 use native.Mathlib.Omega.{arith}
 use denote.Ref.{now}
 use lib.ListN.{length}
@@ -9,10 +8,6 @@ use Rattle.release.proofs.Images.{Rewriting, rewriting-start, following
 use borrow.Author.Needs.{needs}
 use Rattle.release.proofs.rewrite_images.Statement.{statement}
 use Rattle.release.proofs.rewrite_images.Tie as tie
-use Rattle.release.proofs.rewrite_images.Reads as reads
-use Rattle.release.proofs.rewrite_images.Lts as lts
-use Rattle.cells.proofs.read.word.Reads as word-reads
-use Rattle.release.proofs.place.rewrite_image.Reads as rewrite-image-reads
 
 abbrev Inv-loop : tie.InvT-loop
 Inv-loop release out₀ answers₀ at₀ to₀ k₀ out answers at to k = Rewriting release out₀ answers₀ out answers at to k

@@ -1,5 +1,5 @@
 -- `release::rewrite_release` meets its contract.
-use mathlib.Core.Path.{_≡_, refl, sym, _∙_, ap}
+use mathlib.Core.Path.{sym, _∙_}
 use native.Mathlib.Omega.{arith}
 use denote.Ref.{now}
 use lib.ListN.{length}
@@ -11,10 +11,6 @@ use Rattle.release.proofs.Done.{release-done}
 use borrow.Author.Needs.{needs}
 use Rattle.release.proofs.rewrite_release.Statement.{statement}
 use Rattle.release.proofs.rewrite_release.Tie as tie
-use Rattle.release.proofs.rewrite_release.Reads as reads
-use Rattle.release.proofs.rewrite_release.Lts as lts
-use Rattle.release.proofs.count_images.Reads as count-images-reads
-use Rattle.release.proofs.rewrite_images.Reads as rewrite-images-reads
 
 -- a release has bytes
 bytes : (k : tie.After-shared-slice-known) → Byte (now (k .before .args .release))
@@ -27,7 +23,7 @@ returns c =
     let s = now (q .args .release) in
     let out = now (q .args .out) in
     let answers = now (q .args .answers) in
-    release-done s out out answers answers Refused (bytes k) (refused-so s out answers (too-short s (length out) (length answers) (c .if1 .taken)))
+    release-done s out out answers answers Refused (bytes k) (refused-so s out answers (too-short s (length out) (length answers) (omega (arith, c .if1 .taken))))
 
 returns-2 : tie.Need-returns-2
 returns-2 c =

@@ -4,9 +4,6 @@ use Rattle.release.proofs.Writing.{number-put}
 use borrow.Author.Needs.{needs}
 use Rattle.release.proofs.place.put_number.Statement.{statement}
 use Rattle.release.proofs.place.put_number.Tie as tie
-use Rattle.release.proofs.place.put_number.Reads as reads
-use Rattle.release.proofs.place.put_number.Lts as lts
-use Rattle.cells.proofs.read.put_half.Reads as put-half-reads
 
 returns : tie.Need-returns
 returns c =

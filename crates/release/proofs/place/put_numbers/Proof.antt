@@ -7,9 +7,6 @@ use Rattle.cells.proofs.Over.{over-part}
 use borrow.Author.Needs.{needs}
 use Rattle.release.proofs.place.put_numbers.Statement.{statement}
 use Rattle.release.proofs.place.put_numbers.Tie as tie
-use Rattle.release.proofs.place.put_numbers.Reads as reads
-use Rattle.release.proofs.place.put_numbers.Lts as lts
-use Rattle.release.proofs.place.put_number.Reads as put-number-reads
 
 returns : tie.Need-returns
 returns c =

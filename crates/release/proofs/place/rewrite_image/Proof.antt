@@ -1,6 +1,6 @@
 -- `release::place::rewrite_image` meets its contract.
 use Prim.Native.Nat.{_-_}
-use mathlib.Core.Path.{_≡_, sym, _∙_, ap}
+use mathlib.Core.Path.{_≡_, _∙_, ap}
 use native.Mathlib.Omega.{arith}
 use denote.Ref.{now}
 use lib.ListN.{length, take, drop}
@@ -14,13 +14,6 @@ use Rattle.release.proofs.Alone.{back-length, back-shorter, numbers-sma
 use borrow.Author.Needs.{needs}
 use Rattle.release.proofs.place.rewrite_image.Statement.{statement}
 use Rattle.release.proofs.place.rewrite_image.Tie as tie
-use Rattle.release.proofs.place.rewrite_image.Reads as reads
-use Rattle.release.proofs.place.rewrite_image.Lts as lts
-use Rattle.passes.proofs.run_default_opt_passes.Reads as run-default-opt-passes-reads
-use Rattle.release.proofs.place.length_written.Reads as length-written-reads
-use Rattle.release.proofs.place.numbers_as.Reads as numbers-as-reads
-use Rattle.release.proofs.place.put_number.Reads as put-number-reads
-use Rattle.release.proofs.place.put_numbers.Reads as put-numbers-reads
 
 abbrev start : tie.After-run-default-opt-passes → tie.Start
 start r = r .before .before .before .before .before
