@@ -109,6 +109,8 @@ pub trait Operations: Sync {
     /// Document 02's packed form of an image, and the image of a packed form.
     fn pack(&self, image: &[u8], out: &mut [u8]) -> Reply;
     fn unpack(&self, packed: &[u8], out: &mut [u8]) -> Reply;
+    /// Document 02's whole release: what becomes of each image, and the three numbers of each.
+    fn release(&self, release: &[u8], out: &mut [u8], answers: &mut [u8]) -> Reply;
     /// Document 02's factor that gives a wanted value: the number of the answer.
     fn factor(&self, leaf: Leaf, wanted: i32, factor: i32, other: &mut i32) -> usize;
 

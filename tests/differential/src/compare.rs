@@ -12,6 +12,7 @@ use crate::model;
 use crate::original::{self, Answers};
 use crate::packed;
 use crate::pages;
+use crate::release;
 use crate::rest::Rested;
 use crate::sealing::Numbers;
 use crate::table;
@@ -413,6 +414,9 @@ pub const PAGES: Written = Written {
 };
 pub const PACKED: Written = Written { name: "Pack", part: cells::CELL, text: hexadecimal };
 pub const UNPACKED: Written = Written { name: "Unpack", part: cells::CELL, text: hexadecimal };
+pub const RELEASED: Written = Written { name: "Release", part: cells::CELL, text: hexadecimal };
+pub const ANSWERS: Written =
+    Written { name: "Release, numbers", part: release::NUMBERS, text: hexadecimal };
 
 /// Compares an answer and every byte of what is lent, which is what `around` has between its
 /// guards; it is as it was before the call.
@@ -426,11 +430,15 @@ pub fn check_written<'a>(
     let (expected, bytes) = expected(lent.len());
     let mut buffer = around.to_vec();
     let reply = call(&mut buffer[lent]);
-    if reply != expected {
-        let what = format!("{}, answer", written.name);
-        return difference(what, expected.to_string(), reply.to_string());
-    }
+    check_reply(&format!("{}, answer", written.name), expected, reply)?;
     check_lent(written, bytes, around, &buffer)
+}
+
+pub(crate) fn check_reply(what: &str, expected: Reply, reply: Reply) -> Result<(), Difference> {
+    if reply == expected {
+        return Ok(());
+    }
+    difference(what, expected.to_string(), reply.to_string())
 }
 
 /// A lent buffer has these bytes at its start, and every other byte is as it was, the guards too.

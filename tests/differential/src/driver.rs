@@ -11,6 +11,8 @@ use crate::numbered;
 use crate::packed::{self, Unpacking, FAULTS};
 use crate::pages::{self, SHAPES};
 use crate::random::{mix, Random};
+use crate::release::{self, Lengths, Releasing};
+use crate::releases::{self, Releases};
 use crate::rest::{self, ROUNDS};
 use crate::runs::{self, Outside};
 use crate::sealing::{self, Numbers, CASES};
@@ -135,6 +137,41 @@ impl Sealings {
     }
 }
 
+/// What occurred in the releases that were compared.
+#[derive(Debug, Default)]
+pub struct Released {
+    pub releases: u64,
+    /// Images in those that aren't refused, and refused ones of them.
+    pub images: u64,
+    pub refused: u64,
+    /// A release counts once for each subject and each two lengths of the lent buffers.
+    pub comparisons: u64,
+    /// Releases, with each two lengths, by what their answers turn on.
+    pub cases: [u64; release::CASES.len()],
+}
+
+impl Released {
+    fn count(&mut self, releasing: &Releasing, lent: &[Lengths], subjects: usize) {
+        self.releases += 1;
+        self.images += releasing.outcomes().len() as u64;
+        self.refused += releasing.refused() as u64;
+        self.comparisons += (lent.len() * subjects) as u64;
+        for (count, (_, case)) in self.cases.iter_mut().zip(release::CASES) {
+            *count += lent.iter().filter(|lent| case(releasing, **lent)).count() as u64;
+        }
+    }
+
+    fn add(&mut self, other: &Released) {
+        self.releases += other.releases;
+        self.images += other.images;
+        self.refused += other.refused;
+        self.comparisons += other.comparisons;
+        for (sum, count) in self.cases.iter_mut().zip(other.cases) {
+            *sum += count;
+        }
+    }
+}
+
 /// What occurred in the factors that were compared.
 #[derive(Debug, Default)]
 pub struct Factors {
@@ -191,8 +228,8 @@ impl Occurred {
 
 /// What was lent: an output, or a buffer for the pages, for the packed form or for what is unpacked;
 /// its length, less the image's or the joined one's, or less that of what is written; or a number for
-/// a factor. Or a law, with the place at which it ends a packed form; or one of what rests, or of the
-/// sealing check.
+/// a factor. Or both buffers for a release. Or a law, with the place at which it ends a packed form; or
+/// one of what rests, or of the sealing check; or of a release, with the place at which it cuts that.
 #[derive(Debug, Clone, Copy, PartialEq, Eq)]
 pub enum Lent {
     Output(isize),
@@ -202,6 +239,8 @@ pub enum Lent {
     Law(usize),
     RestLaw,
     SealingLaw,
+    Release(Lengths),
+    ReleaseLaw(usize),
     Number,
 }
 
@@ -209,7 +248,7 @@ pub enum Lent {
 pub struct Found {
     pub group: &'static str,
     pub subject: &'static str,
-    /// The image, or the two that are joined; the packed form; none for a factor.
+    /// The image, or the two that are joined; the packed form; the release; none for a factor.
     pub images: Vec<Vec<u8>>,
     pub lent: Lent,
     pub difference: Difference,
@@ -225,6 +264,7 @@ struct Worker<'a> {
     sealings: Sealings,
     occurred: Occurred,
     packing: Packing,
+    released: Released,
     factors: Factors,
     runs: u64,
     entries: u64,
@@ -396,6 +436,42 @@ impl Worker<'_> {
         count_of(&mut self.counts, group).packed += (more.len() * self.subjects.len()) as u64;
     }
 
+    /// Compares a release, with lent buffers of the given lengths.
+    fn release(
+        &mut self,
+        group: &'static str,
+        release: &[u8],
+        lent: impl FnOnce(&mut Random, &Releasing) -> Vec<Lengths>,
+    ) {
+        let releasing = match Releasing::new(release) {
+            Ok(releasing) => releasing,
+            Err(difference) => {
+                let lent = Lent::Release((0, 0));
+                return self.found(group, "original", &[release], lent, difference);
+            }
+        };
+        let lent = lent(&mut self.random, &releasing);
+        let longest = lent.iter().map(|lent| releasing.around(*lent)).max().unwrap_or(0);
+        let around = dirty(&mut self.random, longest);
+        for lengths in &lent {
+            for subject in self.subjects {
+                if let Err(difference) = releasing.check(*subject, *lengths, &around) {
+                    let lent = Lent::Release(*lengths);
+                    return self.found(group, subject.name(), &[release], lent, difference);
+                }
+            }
+        }
+        // The laws of one release in four.
+        let at = self.random.bits() as usize;
+        for subject in self.subjects.iter().filter(|_| at % 4 == 0) {
+            if let Err(difference) = release::laws(*subject, release, at / 4) {
+                let lent = Lent::ReleaseLaw(at / 4);
+                return self.found(group, subject.name(), &[release], lent, difference);
+            }
+        }
+        self.released.count(&releasing, &lent, self.subjects.len());
+    }
+
     fn found(
         &mut self,
         group: &'static str,
@@ -446,6 +522,26 @@ impl Worker<'_> {
                 return;
             }
             self.form(group.name, &Unpacking::new((group.form)(index)), group.more);
+        }
+    }
+
+    /// This worker's part of a group of releases.
+    fn every_release(&mut self, group: &Releases, first: usize, step: usize) {
+        for index in (first..group.count).step_by(step) {
+            if self.stopped() {
+                return;
+            }
+            self.release(group.name, &(group.release)(index), |_, it| (group.lent)(it));
+        }
+    }
+
+    /// One round over random releases.
+    fn release_round(&mut self) {
+        for _ in 0..40 {
+            let release = releases::any_release(&mut self.random);
+            self.release("releases", &release, |random, it| {
+                vec![(0, 0), releases::any_lengths(random, it), releases::any_lengths(random, it)]
+            });
         }
     }
 
@@ -734,6 +830,7 @@ pub struct Outcome {
     pub sealings: Sealings,
     pub occurred: Occurred,
     pub packing: Packing,
+    pub released: Released,
     pub factors: Factors,
     /// Pairs of runs, and the entries of their records.
     pub runs: u64,
@@ -756,6 +853,8 @@ pub enum Groups {
     Rest,
     /// Those in which functions have numbers, and a few others.
     Numbers,
+    /// Those of releases.
+    Releases,
 }
 
 /// The exhaustive groups as a whole, then rounds of the random ones for the rest of
@@ -774,11 +873,15 @@ pub fn compare(
         Groups::Packed => generate::packed(),
         Groups::Rest => generate::rests(),
         Groups::Numbers => generate::numbers(),
-        Groups::Joined | Groups::Factors => Vec::new(),
+        Groups::Joined | Groups::Factors | Groups::Releases => Vec::new(),
     };
     let forms = match groups {
         Groups::All | Groups::Packed => forms::exhaustive(),
-        Groups::Joined | Groups::Factors | Groups::Rest | Groups::Numbers => Vec::new(),
+        _ => Vec::new(),
+    };
+    let releases = match groups {
+        Groups::All | Groups::Releases => releases::exhaustive(),
+        _ => Vec::new(),
     };
     let pairs = generate::joined_short();
     let stop = AtomicBool::new(false);
@@ -795,6 +898,7 @@ pub fn compare(
                 sealings: Sealings::default(),
                 occurred: Occurred::default(),
                 packing: Packing::default(),
+                released: Released::default(),
                 factors: Factors::default(),
                 runs: 0,
                 entries: 0,
@@ -802,6 +906,7 @@ pub fn compare(
                 found: &found,
             };
             let (exhaustive, forms, pairs) = (&exhaustive, &forms, &pairs);
+            let releases = &releases;
             let one_of = move |some: &[Groups]| groups == Groups::All || some.contains(&groups);
             scope.spawn(move || {
                 if one_of(&[Groups::Factors]) {
@@ -812,6 +917,9 @@ pub fn compare(
                 }
                 for group in forms {
                     worker.every_form(group, index, threads);
+                }
+                for group in releases {
+                    worker.every_release(group, index, threads);
                 }
                 if one_of(&[Groups::Joined]) {
                     worker.every_pair(pairs, index, threads);
@@ -835,6 +943,9 @@ pub fn compare(
                     if one_of(&[Groups::Joined]) {
                         worker.joined_round();
                     }
+                    if one_of(&[Groups::Releases]) {
+                        worker.release_round();
+                    }
                     if Instant::now() >= deadline {
                         break;
                     }
@@ -853,6 +964,7 @@ pub fn compare(
         sealings: Sealings::default(),
         occurred: Occurred::default(),
         packing: Packing::default(),
+        released: Released::default(),
         factors: Factors::default(),
         runs: 0,
         entries: 0,
@@ -877,6 +989,7 @@ pub fn compare(
         outcome.sealings.add(&worker.sealings);
         outcome.occurred.add(&worker.occurred);
         outcome.packing.add(&worker.packing);
+        outcome.released.add(&worker.released);
         outcome.factors.add(&worker.factors);
         outcome.runs += worker.runs;
         outcome.entries += worker.entries;
@@ -896,21 +1009,20 @@ fn count_of<'a>(counts: &'a mut Vec<Count>, name: &'static str) -> &'a mut Count
 }
 
 /// Images of more bytes are made smaller for some time only.
-const LONG: usize = 16_384;
-const LONG_FOR: Duration = Duration::from_secs(4);
+pub(crate) const LONG: usize = 16_384;
+pub(crate) const LONG_FOR: Duration = Duration::from_secs(4);
 /// Packed forms of so many bytes show something at the limit, and can't be much smaller.
 const LONG_FORM_FOR: Duration = Duration::from_secs(1);
 
-/// The smallest image, the smallest two or the smallest packed form that show the same difference;
-/// the pair of a factor as it is.
+/// The smallest image, the smallest two, the smallest packed form or release that show the same
+/// difference; the pair of a factor as it is.
 fn smallest(subjects: &Subjects, found: Found) -> Found {
-    let form = matches!(found.lent, Lent::Unpacked(_));
-    let deadline = Instant::now() + if form { LONG_FORM_FOR } else { LONG_FOR };
+    let long_for = match found.lent {
+        Lent::Unpacked(_) => LONG_FORM_FOR,
+        _ => LONG_FOR,
+    };
+    let deadline = Instant::now() + long_for;
     let same = |images: &[Vec<u8>]| {
-        let long = images.iter().map(Vec::len).sum::<usize>() > LONG;
-        if long && Instant::now() > deadline {
-            return false;
-        }
         shown(subjects, &found, images).is_some_and(|other| other.what == found.difference.what)
     };
     if !same(&found.images) {
@@ -922,13 +1034,20 @@ fn smallest(subjects: &Subjects, found: Found) -> Found {
         let before = images.clone();
         for at in 0..images.len() {
             let mut tried = images.clone();
+            let others = images.iter().map(Vec::len).sum::<usize>() - images[at].len();
             let shows = |image: &[u8]| {
+                if others + image.len() > LONG && Instant::now() > deadline {
+                    return false;
+                }
                 tried[at] = image.to_vec();
                 same(&tried)
             };
-            images[at] = match form {
-                true => shrink_by(forms::shorter, &images[at], shows),
-                false => shrink(&images[at], shows),
+            images[at] = match found.lent {
+                Lent::Unpacked(_) => shrink_by(forms::shorter, &images[at], shows),
+                Lent::Release(_) | Lent::ReleaseLaw(_) => {
+                    shrink_by(releases::shorter, &images[at], shows)
+                }
+                _ => shrink(&images[at], shows),
             };
         }
         if images == before {
@@ -948,6 +1067,17 @@ fn shown(subjects: &Subjects, found: &Found, images: &[Vec<u8>]) -> Option<Diffe
         let around = dirty(&mut Random::new(0), length + 2 * GUARD);
         let checked = unpacking.check(*subject, &around);
         return checked.and_then(|()| packed::packs_again(*subject, &unpacking.packed)).err();
+    }
+    if let (Some(subject), Lent::ReleaseLaw(at)) = (subject, found.lent) {
+        return release::laws(*subject, &images[0], at).err();
+    }
+    if let Lent::Release(lengths) = found.lent {
+        let releasing = match Releasing::new(&images[0]) {
+            Ok(releasing) => releasing,
+            Err(difference) => return Some(difference),
+        };
+        let around = dirty(&mut Random::new(0), releasing.around(lengths));
+        return releasing.check(*subject?, lengths, &around).err();
     }
     let parts = images.iter().map(|image| Part::new(image));
     let mut parts = match parts.collect::<Result<Vec<Part>, Difference>>() {
@@ -989,7 +1119,7 @@ fn shown(subjects: &Subjects, found: &Found, images: &[Vec<u8>]) -> Option<Diffe
             let images: Vec<&[u8]> = images.iter().map(Vec::as_slice).collect();
             sealing::laws(*subject, &images)
         }
-        Lent::Unpacked(_) | Lent::Number => return None,
+        Lent::Unpacked(_) | Lent::Release(_) | Lent::ReleaseLaw(_) | Lent::Number => return None,
     };
     differs.err()
 }

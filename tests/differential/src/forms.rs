@@ -3,7 +3,7 @@
 
 use crate::cells::{self, Cell, CELL, HEAD_END, MAX_EVENTS, MAX_IMAGE, MAX_INSTRS};
 use crate::codec;
-use crate::generate::{any_image, borrow, event, filled, load_i32, ret, store_var, EDGES};
+use crate::generate::{self, any_image, borrow, event, filled, load_i32, ret, store_var, EDGES};
 use crate::legacy_lowering::{byte, COMMANDS};
 use crate::packed::{self, Part};
 use crate::random::Random;
@@ -315,10 +315,7 @@ pub fn any_form(random: &mut Random) -> Vec<u8> {
             }
             form
         }
-        14 => {
-            let length = random.below(200);
-            (0..length).map(|_| random.bits() as u8).collect()
-        }
+        14 => generate::any_bytes(random, 199),
         _ => any_cells(random),
     }
 }
@@ -485,7 +482,7 @@ pub fn shorter(form: &[u8]) -> Box<dyn Iterator<Item = Vec<u8>> + '_> {
 }
 
 /// Runs of so many things, long ones first.
-fn runs(count: usize) -> impl Iterator<Item = (usize, usize)> {
+pub(crate) fn runs(count: usize) -> impl Iterator<Item = (usize, usize)> {
     let sizes = std::iter::successors(Some(count), |size| Some(size / 2));
     sizes
         .take_while(|size| *size > 0)

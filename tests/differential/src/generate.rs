@@ -329,7 +329,7 @@ fn listed_function(first: usize, instrs: usize, events: usize) -> (Vec<Cell>, Ve
 pub(crate) const SHORT: usize = 5;
 
 /// The `index`th list over an alphabet, shorter lists first.
-pub(crate) fn word(alphabet: &[Cell], mut index: usize) -> Vec<Cell> {
+pub(crate) fn word<T: Copy>(alphabet: &[T], mut index: usize) -> Vec<T> {
     let mut length = 0;
     let mut count = 1;
     while index >= count {
@@ -345,7 +345,7 @@ pub(crate) fn word(alphabet: &[Cell], mut index: usize) -> Vec<Cell> {
     letters.collect()
 }
 
-pub(crate) fn words(alphabet: &[Cell], longest: usize) -> usize {
+pub(crate) fn words<T>(alphabet: &[T], longest: usize) -> usize {
     (0..=longest as u32).map(|length| alphabet.len().pow(length)).sum()
 }
 
@@ -1561,6 +1561,18 @@ pub fn damaged(random: &mut Random) -> Vec<u8> {
         damage(random, &mut image);
     }
     image
+}
+
+/// One that ends early.
+pub fn truncated(random: &mut Random) -> Vec<u8> {
+    let mut image = any_image(random);
+    image.truncate(random.below(image.len() + 1));
+    image
+}
+
+/// Up to so many bytes that are no image.
+pub fn any_bytes(random: &mut Random, most: usize) -> Vec<u8> {
+    (0..random.range(0, most)).map(|_| random.bits() as u8).collect()
 }
 
 pub(crate) fn damage(random: &mut Random, image: &mut Vec<u8>) {

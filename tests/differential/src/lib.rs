@@ -21,6 +21,8 @@ pub mod packed;
 pub mod pages;
 pub mod program;
 pub mod random;
+pub mod release;
+pub mod releases;
 pub mod rest;
 pub mod runs;
 pub mod sample;

@@ -54,7 +54,7 @@ mod linked {
     declared! {
         (
             release: *const u8,
-            length: usize,
+            release_length: usize,
             out: *mut u8,
             out_length: usize,
             answers: *mut u8,
@@ -129,26 +129,6 @@ mod linked {
 
     pub struct Library;
 
-    impl Library {
-        /// Document 02's rewrite of a whole release.
-        pub fn release(&self, release: &[u8], out: &mut [u8], answers: &mut [u8]) -> Reply {
-            let (mut first, mut second) = (UNSET, UNSET);
-            let number = unsafe {
-                matchdesk_rewrite_release(
-                    release.as_ptr(),
-                    release.len(),
-                    out.as_mut_ptr(),
-                    out.len(),
-                    answers.as_mut_ptr(),
-                    answers.len(),
-                    &mut first,
-                    &mut second,
-                )
-            };
-            Reply { number, first, second }
-        }
-    }
-
     impl Operations for Library {
         fn name(&self) -> &'static str {
             "library"
@@ -185,6 +165,22 @@ mod linked {
         }
         fn unpack(&self, packed: &[u8], out: &mut [u8]) -> Reply {
             reply(matchdesk_unpack, packed, out)
+        }
+        fn release(&self, release: &[u8], out: &mut [u8], answers: &mut [u8]) -> Reply {
+            let (mut first, mut second) = (UNSET, UNSET);
+            let number = unsafe {
+                matchdesk_rewrite_release(
+                    release.as_ptr(),
+                    release.len(),
+                    out.as_mut_ptr(),
+                    out.len(),
+                    answers.as_mut_ptr(),
+                    answers.len(),
+                    &mut first,
+                    &mut second,
+                )
+            };
+            Reply { number, first, second }
         }
         fn factor(&self, leaf: Leaf, wanted: i32, factor: i32, other: &mut i32) -> usize {
             // Between two numbers that nobody may write.

@@ -4,7 +4,8 @@
 use differential::answers::{Operation, Operations};
 use differential::compare::{self, hexadecimal, Difference};
 use differential::driver::{
-    self, Count, Factors, Found, Groups, Lent, Occurred, Outcome, Packing, Rests, Sealings,
+    self, Count, Factors, Found, Groups, Lent, Occurred, Outcome, Packing, Released, Rests,
+    Sealings,
 };
 use differential::factors::{self, TURNS};
 use differential::model::Model;
@@ -14,7 +15,7 @@ use differential::program::{self, Program};
 use differential::random::{mix, Random};
 use differential::runs::{self, Outside};
 use differential::sealing::CASES;
-use differential::{cells, generate, sample, table, words};
+use differential::{cells, generate, release, sample, table, words};
 use std::process::ExitCode;
 use std::time::{SystemTime, UNIX_EPOCH};
 
@@ -33,7 +34,7 @@ usage: [--seed N] [--seconds N] [--threads N]
        [--seed N] --sample FILE
        --replay FILE
        [--seed N] [--seconds N] --program FILE
-           [--word rewrite|fuller|rest|seal|pages|pack|unpack|factor]";
+           [--word rewrite|fuller|rest|seal|pages|pack|unpack|release|factor]";
 
 fn options() -> Result<Options, String> {
     let now = SystemTime::now().duration_since(UNIX_EPOCH).unwrap_or_default();
@@ -179,6 +180,7 @@ fn compare(options: &Options) -> Result<String, String> {
              the fuller rewrite: by the model, and by the original as far as it decides\n\
              the sealing check: by the model, and by the original's validators of all functions as one\n\
              the pages and the packed form: by the model\n\
+             the releases: by the original and the model, image by image\n\
              the factors: by the model, and by a search as far as it goes",
             names.join(", ")
         ));
@@ -188,7 +190,11 @@ fn compare(options: &Options) -> Result<String, String> {
     if let [_, _] = images[..] {
         println!("two images, joined in this order");
     }
-    let name = if matches!(lent, Lent::Unpacked(_)) { "packed form" } else { "image" };
+    let name = match lent {
+        Lent::Unpacked(_) => "packed form",
+        Lent::Release(_) | Lent::ReleaseLaw(_) => "release",
+        _ => "image",
+    };
     for image in &images {
         println!("{name}, {} bytes", image.len());
         println!("{}", hexadecimal(image));
@@ -198,7 +204,11 @@ fn compare(options: &Options) -> Result<String, String> {
         Lent::Pages(more) => println!("lent buffer longer than the pages by {more}"),
         Lent::Packed(more) => println!("lent output longer than the packed form by {more}"),
         Lent::Unpacked(more) => println!("lent output longer than what is unpacked by {more}"),
-        Lent::Law(_) | Lent::RestLaw | Lent::SealingLaw | Lent::Number => {}
+        Lent::Release((out, answers)) => {
+            println!("lent output longer than the release by {out}");
+            println!("lent answers longer than 12 bytes an image by {answers}");
+        }
+        Lent::Law(_) | Lent::RestLaw | Lent::SealingLaw | Lent::ReleaseLaw(_) | Lent::Number => {}
     }
     println!("expected: {}", difference.expected);
     Err(format!("{subject}: {}", difference.got))
@@ -270,6 +280,10 @@ fn report(outcome: &Outcome) {
     println!("packed, by answer   {}", by_number(packed));
     println!("unpacked, by answer {}", by_number(unpacked));
     println!("packed forms {forms}; {}", by_name(FAULTS.map(|(name, _)| name), faults));
+    let Released { releases, images, refused, comparisons, cases } = &outcome.released;
+    println!("releases {releases}, images in those not refused {images}, refused ones {refused}");
+    let cases = by_name(release::CASES.map(|(name, _)| name), cases);
+    println!("releases, {comparisons} comparisons; {cases}");
     let Factors { edges, random, turns } = &outcome.factors;
     println!("factors of pairs    edges: {edges}, random: {random}");
     println!("factors by case     {}", by_name(TURNS.map(|(name, _)| name), turns));

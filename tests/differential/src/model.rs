@@ -1,6 +1,7 @@
 //! Document 01's answers, document 02's fuller rewrite and its rewrite until it rests, written from
 //! the documents on cells and bytes. Document 02's pages are in `pages.rs`, its packed form in
-//! `packed.rs`, its sealing check in `sealing.rs`, its factors in `factors.rs`.
+//! `packed.rs`, its sealing check in `sealing.rs`, its whole release in `release.rs`, its factors in
+//! `factors.rs`.
 
 use crate::answers::{Checked, Operation, Operations, Refusal, Reply, Rewritten, Success};
 use crate::cells::{self, Cell, Function};
@@ -10,6 +11,7 @@ use crate::leaves::{self, Computed, Const};
 use crate::legacy_lowering::byte;
 use crate::packed;
 use crate::pages;
+use crate::release;
 use crate::rest::Rested;
 use crate::sealing;
 use crate::table;
@@ -54,6 +56,9 @@ impl Operations for Model {
     }
     fn unpack(&self, packed: &[u8], out: &mut [u8]) -> Reply {
         packed::unpack_answer(packed, out)
+    }
+    fn release(&self, release: &[u8], out: &mut [u8], answers: &mut [u8]) -> Reply {
+        release::answer(release, out, answers)
     }
     fn factor(&self, leaf: Leaf, wanted: i32, factor: i32, other: &mut i32) -> usize {
         factors::answer(factors::model(leaf, wanted, factor), other)

@@ -3,7 +3,7 @@
 
 use crate::answers::{Operations, Refusal, Reply};
 use crate::cells::{self, Cell, CELL, HEAD_END, MAX_EVENTS, MAX_IMAGE, MAX_INSTRS};
-use crate::compare::{check_written, difference, hexadecimal, Difference, UNPACKED};
+use crate::compare::{check_reply, check_written, difference, hexadecimal, Difference, UNPACKED};
 use crate::model;
 use crate::table;
 use std::collections::VecDeque;
@@ -250,10 +250,10 @@ pub fn laws(subject: &dyn Operations, image: &[u8], cut: usize) -> Result<(), Di
     let mut out = vec![0xA5; image.len()];
     let reply = subject.pack(image, &mut out);
     if let Err(refusal) = subject.image_check(image) {
-        return same("Pack, refused as by the image check", refusal.into(), reply);
+        return check_reply("Pack, refused as by the image check", refusal.into(), reply);
     }
     let success = |length| Reply { number: 0, first: length, second: 0 };
-    same("Pack, no refusal where the image check has none", success(reply.first), reply)?;
+    check_reply("Pack, no refusal where the image check has none", success(reply.first), reply)?;
     if reply.first > image.len() / CELL * (CELL - 1) {
         let bytes = |length| format!("{length} bytes");
         let most = image.len() / CELL * (CELL - 1);
@@ -262,13 +262,13 @@ pub fn laws(subject: &dyn Operations, image: &[u8], cut: usize) -> Result<(), Di
     let packed = &out[..reply.first];
     let mut back = vec![0x5A; image.len()];
     let reply = subject.unpack(packed, &mut back);
-    same("Unpack, of what was packed", success(image.len()), reply)?;
+    check_reply("Unpack, of what was packed", success(image.len()), reply)?;
     if back != image {
         return difference("Unpack, as it was packed", hexadecimal(image), hexadecimal(&back));
     }
     if let Some(less) = image.len().checked_sub(1) {
         let reply = subject.unpack(packed, &mut back[..less]);
-        same("Unpack, a byte too short", TOO_SHORT, reply)?;
+        check_reply("Unpack, a byte too short", TOO_SHORT, reply)?;
         let reply = subject.unpack(&packed[..cut % packed.len()], &mut back);
         match reply.number {
             0 if back.get(..reply.first).is_some_and(|part| image.starts_with(part)) => {}
@@ -299,17 +299,10 @@ pub fn packs_again(subject: &dyn Operations, packed: &[u8]) -> Result<(), Differ
     let mut again = vec![0x5A; packed.len()];
     let reply = subject.pack(image, &mut again);
     let success = Reply { number: 0, first: packed.len(), second: 0 };
-    same("Unpack, packed again", success, reply)?;
+    check_reply("Unpack, packed again", success, reply)?;
     if again != packed {
         let what = "Unpack, packed again";
         return difference(what, hexadecimal(packed), hexadecimal(&again));
     }
     Ok(())
-}
-
-fn same(what: &str, expected: Reply, reply: Reply) -> Result<(), Difference> {
-    if reply == expected {
-        return Ok(());
-    }
-    difference(what, expected.to_string(), reply.to_string())
 }

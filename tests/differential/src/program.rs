@@ -3,12 +3,15 @@
 use crate::answers::{checked_text, Operation, Refusal};
 use crate::cells::MAX_IMAGE;
 use crate::compare::{self, hexadecimal, Expected};
+use crate::driver::{LONG, LONG_FOR};
 use crate::forms;
 use crate::generate;
 use crate::model;
 use crate::numbered;
 use crate::packed;
 use crate::random::Random;
+use crate::release::{Releasing, MAX_RELEASE};
+use crate::releases;
 use crate::shrink::{shrink, shrink_by};
 use std::io::{Read, Write};
 use std::process::{Command, Stdio};
@@ -33,6 +36,8 @@ pub enum Text {
     /// error.
     Packed,
     Unpacked,
+    /// A whole release: bytes, and on standard error a line an image, or the refusal.
+    Released,
 }
 
 /// What comes on standard output and on standard error.
@@ -58,6 +63,7 @@ impl<'a> Program<'a> {
             Some("pages") => Text::Pages,
             Some("pack") => Text::Packed,
             Some("unpack") => Text::Unpacked,
+            Some("release") => Text::Released,
             Some(word) => return Err(format!("no text is known for the word {word}")),
         };
         Ok(Program { file, word, text })
@@ -83,7 +89,30 @@ pub fn said(text: Text, input: &[u8]) -> Result<Said, String> {
         Text::Pages => Ok(output(pages_text(&expected()?, input)?)),
         Text::Packed => Ok(bytes(model::image_check(input).map(|()| packed::pack(input)))),
         Text::Unpacked => Ok(bytes(packed::unpack(input).map_err(Refusal::from))),
+        Text::Released => released(input),
     }
+}
+
+/// The line of a release that is refused.
+const RELEASE_REFUSED: &[u8] = b"refused 33\n";
+
+/// The framed output, and of each image its place and what became of it; the buffers are never too
+/// short.
+fn released(input: &[u8]) -> Result<Said, String> {
+    let refused = Said { output: Vec::new(), error: RELEASE_REFUSED.to_vec() };
+    if input.len() > MAX_RELEASE {
+        return Ok(refused);
+    }
+    let releasing = Releasing::new(input).map_err(|difference| difference.what)?;
+    let Ok(outcomes) = &releasing.outcomes else {
+        return Ok(refused);
+    };
+    let lines = outcomes.iter().enumerate().map(|(place, outcome)| match outcome {
+        Ok((_, success)) => format!("{place} rewrites {}\n", success.num_rewrites),
+        Err(refusal) => format!("{place} {refusal}\n"),
+    });
+    let lines: String = lines.collect();
+    Ok(Said { output: releasing.both().out.clone(), error: lines.into() })
 }
 
 fn bytes(answer: Result<Vec<u8>, Refusal>) -> Said {
@@ -117,15 +146,20 @@ pub fn compare(program: Program, seed: u64, seconds: u64) -> Result<String, Stri
     let start = Instant::now();
     let mut random = Random::new(seed);
     let mut inputs = 0;
-    // Every length first.
+    // Every length first, of a release those around the limit.
     let lengths = generate::every_length();
-    for index in 0..lengths.count {
-        check(program, &(lengths.image)(index))?;
+    let first: Vec<Vec<u8>> = match program.text {
+        Text::Released => releases::program_inputs(),
+        _ => (0..lengths.count).map(lengths.image).collect(),
+    };
+    for input in first {
+        check(program, &input)?;
         inputs += 1;
     }
     while start.elapsed() < Duration::from_secs(seconds) {
         let input = match program.text {
             Text::Unpacked => packed_input(&mut random),
+            Text::Released => releases::any_input(&mut random),
             _ => input(&mut random),
         };
         check(program, &input)?;
@@ -139,15 +173,8 @@ fn input(random: &mut Random) -> Vec<u8> {
     match random.below(56) {
         0..=14 => numbered::any_image(random),
         15..=26 => generate::damaged(random),
-        27..=32 => {
-            let mut image = generate::any_image(random);
-            image.truncate(random.below(image.len() + 1));
-            image
-        }
-        33..=36 => {
-            let length = random.below(200);
-            (0..length).map(|_| random.bits() as u8).collect()
-        }
+        27..=32 => generate::truncated(random),
+        33..=36 => generate::any_bytes(random, 199),
         37..=38 => generate::limit(random),
         39..=41 => generate::paged(random),
         42 => generate::longest_pages(random),
@@ -191,9 +218,12 @@ pub fn check_by(
     if !differs(input) {
         return Ok(());
     }
+    let deadline = Instant::now() + LONG_FOR;
+    let shows = |input: &[u8]| (input.len() <= LONG || Instant::now() < deadline) && differs(input);
     let input = match text {
-        Text::Unpacked => shrink_by(forms::shorter, input, differs),
-        _ => shrink(input, differs),
+        Text::Unpacked => shrink_by(forms::shorter, input, shows),
+        Text::Released => shrink_by(releases::shorter, input, shows),
+        _ => shrink(input, shows),
     };
     let shown = |said: Result<Said, String>| match said {
         Err(error) => error,
@@ -210,8 +240,8 @@ pub fn check_by(
     ))
 }
 
-/// What the program writes; it must not be ended by a signal. The exit status of `pack` and `unpack`
-/// is 0; of a refusal 0 or, by the command that tells it by what the program wrote, 3.
+/// What the program writes; it must not be ended by a signal. The exit status of `pack`, `unpack` and
+/// `release` is 0; of a refusal 0 or, by the command that tells it by what the program wrote, 3.
 fn run(program: Program, input: &[u8]) -> Result<Said, String> {
     let mut child = Command::new(program.file)
         .args(program.word)
@@ -221,12 +251,14 @@ fn run(program: Program, input: &[u8]) -> Result<Said, String> {
         .spawn()
         .map_err(|error| format!("{}: {error}", program.file))?;
     let mut stdin = child.stdin.take().unwrap();
+    let mut stdout = child.stdout.take().unwrap();
     let mut output = Vec::new();
     let mut errors = Vec::new();
     let taken = std::thread::scope(|scope| {
-        // A program that doesn't read to the end closes the pipe.
+        // A program that doesn't read to the end closes the pipe; one that writes much to either
+        // output waits until it is read.
         let writer = scope.spawn(move || stdin.write_all(input).is_ok());
-        child.stdout.take().unwrap().read_to_end(&mut output).ok();
+        scope.spawn(|| stdout.read_to_end(&mut output).ok());
         child.stderr.take().unwrap().read_to_end(&mut errors).ok();
         writer.join().unwrap()
     });
@@ -234,6 +266,7 @@ fn run(program: Program, input: &[u8]) -> Result<Said, String> {
     let good = match (program.text, status.code()) {
         (_, None) => false,
         (Text::Packed | Text::Unpacked, Some(code)) => code == 0 || code == 3 && !errors.is_empty(),
+        (Text::Released, Some(code)) => code == 0 || code == 3 && errors == RELEASE_REFUSED,
         _ => true,
     };
     if !taken || !good {

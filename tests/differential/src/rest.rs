@@ -1,7 +1,7 @@
 //! The rewrite until it rests (document 02, W11): the rounds of one who repeats the default rewrite,
 //! and laws of one who answers.
 
-use crate::answers::{rewritten_text, Operations, Rewritten, Success};
+use crate::answers::{rewritten_text, Operations, Refusal, Rewritten, Success};
 use crate::compare::{difference, hexadecimal, Difference};
 
 /// An image rests within so many rounds, the one that reports 0 counted.
@@ -123,10 +123,11 @@ pub fn laws(subject: &dyn Operations, image: &[u8]) -> Result<(), Difference> {
     same(what, (&second_bytes, sum), (&bytes, success))
 }
 
-pub(crate) type Answered = Result<(Vec<u8>, Success), crate::answers::Refusal>;
+/// What is written and the answer, or the refusal.
+pub type Answered = Result<(Vec<u8>, Success), Refusal>;
 
 /// What an operation writes to an output as long as the image.
-pub(crate) fn written(image: &[u8], call: impl FnOnce(&mut [u8]) -> Rewritten) -> Answered {
+pub fn written(image: &[u8], call: impl FnOnce(&mut [u8]) -> Rewritten) -> Answered {
     let mut out = vec![0xA5; image.len()];
     let success = call(&mut out)?;
     out.truncate(success.length);

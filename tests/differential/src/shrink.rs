@@ -1,4 +1,4 @@
-//! The smallest image, or packed form, that still shows a difference, by steps that each keep it.
+//! The smallest image, packed form or release that still shows a difference, by steps that each keep it.
 
 use crate::cells::{self, CELL};
 
@@ -42,7 +42,7 @@ fn smaller_bytes(image: &mut [u8], mut shows: impl FnMut(&[u8]) -> bool) -> bool
 }
 
 /// Images that are shorter than the given one, the much shorter ones first.
-fn candidates(image: &[u8]) -> impl Iterator<Item = Vec<u8>> + '_ {
+pub(crate) fn candidates(image: &[u8]) -> impl Iterator<Item = Vec<u8>> + '_ {
     let without = move |from: usize, to: usize| [&image[..from], &image[to..]].concat();
     let heads = heads(image);
     let ends: Vec<usize> = heads.iter().skip(1).copied().chain([image.len()]).collect();

@@ -750,6 +750,7 @@ impl Operations for Wrong {
     fn unpack(&self, form: &[u8], out: &mut [u8]) -> Reply {
         unpack_answer(self.0, form, out)
     }
+    releases_of_the_model!();
     fn factor(&self, leaf: Leaf, wanted: i32, factor: i32, other: &mut i32) -> usize {
         Model.factor(leaf, wanted, factor, other)
     }

@@ -586,6 +586,7 @@ impl Operations for Wrong {
             _ => Model.unpack(form, out),
         }
     }
+    releases_of_the_model!();
     fn factor(&self, leaf: Leaf, wanted: i32, factor: i32, other: &mut i32) -> usize {
         Model.factor(leaf, wanted, factor, other)
     }

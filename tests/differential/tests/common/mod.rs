@@ -87,3 +87,18 @@ macro_rules! packing_of_the_model {
         }
     };
 }
+
+/// In an `impl Operations`: a wrong program whose whole releases are the model's.
+#[allow(unused_macros)]
+macro_rules! releases_of_the_model {
+    () => {
+        fn release(
+            &self,
+            release: &[u8],
+            out: &mut [u8],
+            answers: &mut [u8],
+        ) -> differential::answers::Reply {
+            Model.release(release, out, answers)
+        }
+    };
+}
