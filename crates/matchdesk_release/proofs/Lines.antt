@@ -2,7 +2,7 @@
 use mathlib.Core.Path.{_≡_, refl, sym, ap}
 use mathlib.Core.Bool.{Bool, true, false, cond}
 use mathlib.Core.List.{List, _++_}
-use Prim.Native.Nat.{ℕ, _+_, _-_, _*_, _/_, _%_, _≤_}
+use Prim.Native.Nat.{ℕ, _+_, _-_, _≤_}
 use native.Mathlib.Omega.{arith}
 use borrow.Author.Tests.{eq-eqb, ne-eqb}
 use lib.Dec.{eqb}
@@ -18,12 +18,10 @@ use Rattle.listing.specs.Text.{field, blank, rewritesLine, refusedText}
 use Rattle.listing.proofs.Pieces.{written-length}
 use Rattle.listing.proofs.Whole.{length-field, length-rewrites, length-refused}
 use Rattle.release.specs.Release.{threeNumbers}
+use Rattle.release.proofs.Frames.{four-back}
 use Rattle.matchdesk_release.specs.Program.{answerText, imageLine}
 
 -- ---- an answer's three numbers
-
-four-back : (n : ℕ) → n % 256 + 256 * (n / 256 % 256) + 65536 * (n / 256 / 256 % 256 + 256 * (n / 256 / 256 / 256)) ≡ n
-four-back n = omega arith
 
 module _ (x : Numbers) (s : List ℕ) where
   pub first-back : word (over (threeNumbers x) s) 0 ≡ x .number

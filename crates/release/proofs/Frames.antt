@@ -156,7 +156,8 @@ none-left s at rest h e =
 
 -- ---- framed images are read back
 
-four-back : (n : ℕ) → n % 256 + 256 * (n / 256 % 256) + 65536 * (n / 256 / 256 % 256 + 256 * (n / 256 / 256 / 256)) ≡ n
+-- the bytes of a number read back as it
+pub four-back : (n : ℕ) → n % 256 + 256 * (n / 256 % 256) + 65536 * (n / 256 / 256 % 256 + 256 * (n / 256 / 256 / 256)) ≡ n
 four-back n = omega arith
 
 pub read-back : ReadBack
