@@ -98,10 +98,23 @@ def main():
     both = [k for k, v in collections.Counter(v for n, v in new.items() if n in defined).items() if v > 1]
     assert not both, both
 
+    crates = {f.split("/")[1] for f in antt_files()}
+
+    def foreign(text):
+        """What a file imports from elsewhere, which keeps its name."""
+        found = set()
+        for m in re.finditer(r"(?m)^(?:pub )?use ([\w.'·-]+)\.\{([^}]*)\}", text):
+            parts = re.split(r"[.·]", m[1])
+            if parts[0] != "Rattle" or parts[1] not in crates:
+                found |= {it.strip().split(" as ")[0] for it in m[2].split(",")}
+        return found
+
     def turned(text, antt):
+        kept = foreign(text)
+
         def one(m):
             n = m[0]
-            if n not in new:
+            if n not in new or n in kept:
                 return n
             line = text[text.rfind("\n", 0, m.start()) + 1 : m.start()]
             if "-" in n and re.search(r"--[^`]*(`[^`]*`[^`]*)*$", line) and "--" in line:

@@ -1,4 +1,5 @@
 // The operations for C and Rust: answers are numbers, and those behind the first are written through references.
+#![tactic(auto)]
 ghost use Rattle.std.specs.Prelude.{◌≡◌};
 ghost use Rattle.crystalfold.specs.declared.rules.RuleSet.TheVariants.{Default, Fuller};
 ghost use Rattle.passes.specs.declared.Pass.TheVariants.{Cleanup, CrystalFold};
@@ -19,7 +20,7 @@ use release::Released;
 use sealing::Sealing;
 
 // An answer in three numbers: 0 or the refusal's number, then two more.
-#[derive(Drop)]
+#[derive(Clone, Copy)]
 pub struct Reply {
     pub number: usize,
     pub first: usize,
@@ -27,7 +28,7 @@ pub struct Reply {
 }
 
 // Whether there is a factor: 0 and the factor; or 36 and 0.
-#[derive(Drop)]
+#[derive(Clone, Copy)]
 pub struct FactorReply {
     pub number: usize,
     pub other: i32,

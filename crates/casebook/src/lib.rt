@@ -1,4 +1,5 @@
 // What the programs `cases_*` share: how they count, and how they write, of which no contract can say anything.
+#![tactic(auto)]
 ghost use Rattle.std.specs.Prelude.{◌≡◌};
 ghost use Rattle.casebook.specs.Counts.{counted};
 

@@ -10,7 +10,7 @@ use leaves::verdict::Verdict;
 use leaves::{fixed, float, quad, signed, unsigned};
 
 // A value by its bits; no value, of a number that is no quad's or where there is no factor; the two reasons of a number leaf.
-#[derive(Drop)]
+#[derive(Clone, Copy)]
 pub enum Answer {
     Value(u64),
     Absent,

@@ -1,4 +1,5 @@
 // Runs the leaves on vectors made outside this code (tests/vectors), and writes each group with its count.
+#![tactic(auto)]
 mod leaf;
 mod row;
 mod vectors;

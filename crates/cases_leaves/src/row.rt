@@ -6,14 +6,14 @@ ghost use Rattle.cases_leaves.specs.Rows.{kind_of, bits_in, digit_of, number_in,
 use crate::leaf::{Answer, compute};
 
 // A number in hexadecimal.
-#[derive(Drop)]
+#[derive(Clone, Copy)]
 pub enum Field {
     Value(u64),
     Malformed,
 }
 
 // The operands and the result.
-#[derive(Drop)]
+#[derive(Clone, Copy)]
 pub enum Row {
     Vector(u64, u64, Answer),
     Malformed,

@@ -15,7 +15,7 @@ const LENGTH: usize = 5;
 
 const NAME: usize = 8;
 
-#[derive(Drop)]
+#[derive(Clone, Copy)]
 enum Step {
     Passed(u64),
     End,

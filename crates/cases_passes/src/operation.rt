@@ -10,7 +10,7 @@ use pages::Paged;
 use passes::Rewrite;
 use sealing::{Sealing, repeat_number};
 
-#[derive(Drop)]
+#[derive(Clone, Copy)]
 pub enum Operation {
     ImageCheck,
     SiteCheck,
@@ -28,14 +28,14 @@ pub enum Operation {
 }
 
 // What a byte asks for.
-#[derive(Drop)]
+#[derive(Clone, Copy)]
 pub enum Asked {
     Run(Operation),
     Unknown,
 }
 
 // An answer's numbers. A refusal's are 0 0 0 on success, and the others are 0 on a refusal and of the checks.
-#[derive(Drop)]
+#[derive(Clone, Copy)]
 pub struct Reply {
     pub number: usize,
     pub position: usize,

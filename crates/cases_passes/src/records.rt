@@ -13,7 +13,7 @@ const LONGEST: usize = 65552;
 const OUTPUT: usize = 242384;
 
 // How many bytes of each buffer count, and the group's counts: its images, and its calls that held.
-#[derive(Drop)]
+#[derive(Clone, Copy)]
 struct State {
     group: usize,
     name: usize,
@@ -23,7 +23,7 @@ struct State {
     passed: u64,
 }
 
-#[derive(Drop)]
+#[derive(Clone, Copy)]
 enum Step {
     Next(State),
     End,

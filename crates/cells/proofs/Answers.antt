@@ -1,12 +1,12 @@
 -- Laws of answers, and of the first refusal in order.
 use mathlib.Core.Path.{◌≡◌, refl, ap, sym, ◌∙◌}
-use mathlib.Core.List.{List, [], ◌∷◌, ◌++◌}
+use mathlib.Core.List.{List, []}
 use mathlib.Core.Bool.{Bool, true, false, cond}
 use Prim.Native.Nat.{ℕ, ◌+◌, ◌≤◌, ◌<◌}
 use native.Mathlib.Numerals.{add-one}
 use native.Mathlib.Omega.{arith}
 use lib.ListN.{length, get_or, take, drop, drop_of_length-le}
-use lib.Seq.{take-suc, drop_cons}
+use lib.Seq.{take-suc, drop-cons}
 use Rattle.cells.specs.Cells.{Cell}
 use Rattle.cells.specs.Answers.{unless, or_else, scan}
 use Rattle.cells.specs.declared.refusal.Refusal.{Refusal}
@@ -55,7 +55,7 @@ module _ (judge : List Cell → Cell → Checked) (cs : List Cell) where
   Left all i = all ≡ scan judge (take i cs) (drop i cs)
 
   scan_step : (i : ℕ) → i < length cs → scan judge (take i cs) (drop i cs) ≡ or_else (judge (take i cs) (get_or cs i [])) (scan judge (take (i + 1) cs) (drop (i + 1) cs))
-  scan_step i h = rw (add-one, take-suc cs i [], drop_cons cs i [])
+  scan_step i h = rw (add-one, take-suc cs i [], drop-cons cs i [])
 
   -- the cell at i refuses, or is passed
   pub scan-refuses : (i : ℕ) {all : Checked} {x : Refusal} → i < length cs → Left all i → judge (take i cs) (get_or cs i []) ≡ Refused x → Refused x ≡ all

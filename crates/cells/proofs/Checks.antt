@@ -1,14 +1,14 @@
 -- Laws of the check of one cell: what the code's tests say, and what a good cell is.
-use mathlib.Core.Path.{◌≡◌, refl, ap, sym, ◌∙◌}
+use mathlib.Core.Path.{◌≡◌, refl}
 use mathlib.Core.Logic.{◌↔◌}
-use mathlib.Core.List.{List, [], ◌∷◌}
+use mathlib.Core.List.{List}
 use mathlib.Core.Bool.{Bool, true, false, false≢true, cond, ◌&&◌}
-use Prim.Native.Nat.{ℕ, ◌+◌, ◌*◌, ◌/◌, ◌%◌, ◌≤◌, ◌<◌}
+use Prim.Native.Nat.{ℕ, ◌+◌, ◌≤◌, ◌<◌}
 use native.Mathlib.Omega.{arith}
 use native.Mathlib.Numerals.{add-one}
 use lib.Dec.{eqb, leb}
 use lib.ListN.{length, get_or, drop}
-use lib.Seq.{drop_cons}
+use lib.Seq.{drop-cons}
 use borrow.Author.Tests.{lt-ltb, lt-leb, le-leb, ne_eqb, leb-true}
 use Rattle.cells.specs.Bytes.{byte, zeros}
 use Rattle.cells.specs.Cells.{Cell}
@@ -17,13 +17,12 @@ use Rattle.cells.specs.Table.{rows, event_row, head_row}
 use Rattle.cells.specs.Check.{row_ok, is_command, is_event_kind, is_head, instruction_check, event_check, head_check, code_count, event_count, max_instructions, max_events}
 use Rattle.cells.specs.declared.refusal.Refusal.{Refusal}
 use Rattle.cells.specs.declared.refusal.Refusal.TheVariants.{Head, UnknownCommand, Operand}
-use Rattle.cells.specs.declared.refusal.Checked.{Checked}
 use Rattle.cells.specs.declared.refusal.Checked.TheVariants.{Good, Refused}
 use Rattle.cells.proofs.Answers.{test_good, unless-good}
 
 -- the zeros from i on: the byte at i, and the zeros behind it
 pub zeros-step : (c : List ℕ) (i : ℕ) → i < length c → zeros (drop i c) ≡ (eqb (get_or c i 0) 0 && zeros (drop (i + 1) c))
-zeros-step c i h = rw (add-one, drop_cons c i 0)
+zeros-step c i h = rw (add-one, drop-cons c i 0)
 
 -- ---- by what the code tested
 

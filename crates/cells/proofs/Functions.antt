@@ -2,10 +2,10 @@
 -- images joined; and functions as cells.
 use mathlib.Core.Path.{◌≡◌, refl, ap, ap₂, sym, ◌∙◌}
 use mathlib.Core.List.{List, [], ◌∷◌, ◌++◌, append_assoc}
-use Prim.Native.Nat.{ℕ, zero, suc, ◌+◌, ◌%◌, ◌/◌, ◌≤◌, ◌<◌}
+use Prim.Native.Nat.{ℕ, zero, suc, ◌+◌, ◌≤◌}
 use native.Mathlib.Nat.{le_refl, not-suc-le-zero, le_of_suc-le-suc}
 use native.Mathlib.Omega.{arith}
-use lib.ListN.{length, take, drop, length-take, length-drop, length-append, length-set, take-append-drop}
+use lib.ListN.{length, drop, length-take, length-drop, length-append, length-set, take-append-drop}
 use lib.Seq.{take-append-le, drop-append-le, take_at, drop_at, take-add}
 use Rattle.cells.specs.Cells.{Cell}
 use Rattle.cells.specs.Lists.{All}

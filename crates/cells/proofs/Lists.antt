@@ -8,7 +8,7 @@ use native.Mathlib.Nat.{le_of_suc-le-suc, not-suc-le-zero}
 use native.Mathlib.Numerals.{add-one}
 use native.Mathlib.Omega.{arith}
 use lib.ListN.{length, get_or, take, drop}
-use lib.Seq.{take-suc, take_at, drop_at, drop_cons, get_or-take, length-take-le}
+use lib.Seq.{take-suc, take_at, drop_at, drop-cons, get_or-take, length-take-le}
 use Rattle.cells.specs.Lists.{one, any, tally, only, All}
 use Rattle.cells.specs.Spans.{part}
 use Rattle.cells.proofs.Facts.{by_test, clash}
@@ -161,7 +161,7 @@ part_cons s i n h r =
     let e : n - i ≡ suc (n - (i + 1)) = omega arith in
     let k : i < length s = omega arith in
     let f : suc i ≡ i + 1 = omega arith in
-    rw (e, drop_cons s i 0 k, f)
+    rw (e, drop-cons s i 0 k, f)
 
 -- ---- sublists
 
@@ -189,9 +189,9 @@ module _ {A : Type 0} where
 
   pub sub_sub : {r q p : List A} → Sub r q → Sub q p → Sub r p
   sub_sub end end = end
-  sub_sub s (skip t) = skip (sub_sub s t)
-  sub_sub (keep s) (keep t) = keep (sub_sub s t)
-  sub_sub (skip s) (keep t) = skip (sub_sub s t)
+  sub_sub {r} s (skip t) = skip (sub_sub {r = r} s t)
+  sub_sub (keep {x = x} {q = q} s) (keep {q = q'} {p = p} t) = keep (sub_sub {r = q} s t)
+  sub_sub {r} (skip s) (keep t) = skip (sub_sub {r = r} s t)
 
   pub sub_only : (f : A → Bool) (p : List A) → Sub (only f p) p
   sub_only f [] = end

@@ -1,11 +1,10 @@
 -- A list written over the start of another, or over a part of it.
 use mathlib.Core.Path.{◌≡◌, refl, sym, ◌∙◌, ap, ap₂}
 use mathlib.Core.List.{List, [], ◌∷◌, ◌++◌, append_assoc, append-nil}
-use Prim.Native.Nat.{ℕ, zero, suc, ◌+◌, ◌-◌, ◌≤◌, ◌<◌}
+use Prim.Native.Nat.{ℕ, suc, ◌+◌, ◌-◌, ◌≤◌, ◌<◌}
 use native.Mathlib.Omega.{arith}
-use native.Mathlib.Numerals.{add-one}
 use lib.ListN.{length, get_or, set, take, drop, length-append, length-drop, drop_of_length-le}
-use lib.Seq.{take-length, take_all, take-append_seam, drop-append_seam, drop-append-add, drop-drop, drop_cons, set-append_seam, get_or-append-add, get_or-drop}
+use lib.Seq.{take-length, take_all, take-append_seam, drop-append-add, drop-drop, drop-cons, set-append_seam, get_or-append-add, get_or-drop}
 use Rattle.cells.specs.Cells.{over}
 
 module _ {A : Type 0} where
@@ -71,7 +70,7 @@ module _ {A : Type 0} where
   pub over-set : (xs ys : List A) (x : A) (k : ℕ) → length xs ≡ k → k < length ys → set (over xs ys) k x ≡ over (xs ++ x ∷ []) ys
   unfolding over
   over-set xs ys x k e h =
-      let d : drop (length xs) ys ≡ get_or ys k x ∷ drop (suc k) ys = ap (λ (j : ℕ). drop j ys) e ∙ drop_cons ys k x h in
+      let d : drop (length xs) ys ≡ get_or ys k x ∷ drop (suc k) ys = ap (λ (j : ℕ). drop j ys) e ∙ drop-cons ys k x h in
       let l : length (xs ++ x ∷ []) ≡ suc k = simp length-append (omega arith) in
       rw (d, l, append_assoc, ← e) (set-append_seam xs (get_or ys (length xs) x) (drop (suc (length xs)) ys) x)
 

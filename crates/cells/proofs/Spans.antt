@@ -1,14 +1,14 @@
 -- The laws behind the walk over an image's functions: the one whose head is the cell at.
-use mathlib.Core.Path.{◌≡◌, refl, ap, ap₂, sym, ◌∙◌}
+use mathlib.Core.Path.{◌≡◌, ap, sym, ◌∙◌}
 use mathlib.Core.List.{List, [], ◌∷◌}
-use Prim.Native.Nat.{ℕ, zero, suc, ◌+◌, ◌-◌, ◌*◌, ◌/◌, ◌≤◌, ◌<◌, min}
+use Prim.Native.Nat.{ℕ, ◌+◌, ◌-◌, ◌*◌, ◌/◌, ◌≤◌, ◌<◌, min}
 use native.Mathlib.Numerals.{add-one}
 use native.Mathlib.Omega.{arith}
-use lib.ListN.{length, get_or, take, drop, length-take, length-drop, drop_of_length-le}
-use lib.Seq.{drop_cons, drop-drop, take-length}
+use lib.ListN.{length, get_or, take, drop, length-take, length-drop}
+use lib.Seq.{drop-cons, drop-drop}
 use Rattle.cells.specs.Cells.{Cell, cells, cell_at}
 use Rattle.cells.specs.Check.{code_count, event_count}
-use Rattle.cells.specs.Functions.{Function, function_at, function_from, function_of, behind, functions}
+use Rattle.cells.specs.Functions.{Function, function_at, function_from, behind, functions}
 use Rattle.cells.specs.Spans.{SpanAt, part}
 use Rattle.cells.specs.declared.walk.Span.{Span}
 use Rattle.cells.proofs.Cells.{length-cells, cell_at_lem, part-cell, part-cells}
@@ -17,7 +17,7 @@ use Rattle.cells.proofs.Lists.{take-there, drop-there}
 
 -- the cells from a place on that is in the list
 pub drop-next : (cs : List Cell) (i : ℕ) → i < length cs → drop i cs ≡ get_or cs i [] ∷ drop (i + 1) cs
-drop-next cs i h = rw (add-one, drop_cons cs i [])
+drop-next cs i h = rw (add-one, drop-cons cs i [])
 
 pub length_part : (s : List ℕ) (a b : ℕ) → a ≤ b → b ≤ length s → length (part s a b) ≡ b - a
 length_part s a b h k = simp (length-take, length-drop) (omega arith)

@@ -1,20 +1,19 @@
 -- Laws of the view of a cell: the cell that loads a constant is viewed as that load, the registers of a good cell are below the limit, and a good
 -- head or event is viewed as a barrier.
-use mathlib.Core.Path.{◌≡◌, refl, ap, ap₂, sym, ◌∙◌, subst}
+use mathlib.Core.Path.{◌≡◌, refl, ap, ap₂, sym, ◌∙◌}
 use mathlib.Core.Bool.{Bool, true, false, false≢true, cond, ◌&&◌}
 use mathlib.Core.Option.{none, some}
-use mathlib.Core.List.{List, [], ◌∷◌, ◌++◌}
+use mathlib.Core.List.{List, [], ◌∷◌}
 use Prim.Native.Nat.{ℕ, zero, suc, ◌+◌, ◌*◌, ◌/◌, ◌%◌, ◌≤◌, ◌<◌}
 use native.Mathlib.Omega.{arith}
-use borrow.Author.Tests.{ltb-true, leb-true, eqb_true}
-use lib.Dec.{eqb, ltb, leb, T as Holds}
-use lib.ListN.{get_or}
+use borrow.Author.Tests.{ltb-true, leb-true, eqb-true}
+use lib.Dec.{eqb, ltb, leb}
 use Rattle.leaves.specs.Quads.{quad_of}
 use Rattle.leaves.specs.declared.quad.Quad.TheVariants.{N, F, T, S}
-use Rattle.cells.specs.Bytes.{byte, half, word, long}
+use Rattle.cells.specs.Bytes.{byte, half}
 use Rattle.cells.specs.Cells.{Cell}
-use Rattle.cells.specs.Check.{registers, present, operand_ok, operands_ok, is_command, instruction_check, event_check, head_check, code_count, event_count, max_instructions, max_events, row_ok}
-use Rattle.cells.specs.Ins.{Const, quad, bool, f64, i32, u32, fx, Ins, load, comp, label, jmp, jmp_if, ret, act}
+use Rattle.cells.specs.Check.{registers, present, operand_ok, operands_ok, instruction_check, event_check, head_check, code_count, event_count, max_instructions, max_events}
+use Rattle.cells.specs.Ins.{Const, quad, bool, f64, i32, u32, fx, load, act}
 use Rattle.cells.specs.View.{optional, view_as, view, load_cell, Below, Registers}
 use Rattle.cells.specs.Table.{Row, row, rows, row_at, row_of, class_of, width_of}
 use Rattle.cells.specs.RowNumbers.{kind_of}
@@ -83,7 +82,7 @@ Right [] c at = Unit {0}
 Right (k ∷ ks) c at = (operand_ok k c at ≡ true) × Right ks c (at + width_of k)
 
 same_kind : (k l : Kind) → eqb (kind_number k) (kind_number l) ≡ true → l ≡ k
-same_kind k l e = sym (kind_of_number l) ∙ ap kind_of (sym (eqb_true _ _ e)) ∙ kind_of_number k
+same_kind k l e = sym (kind_of_number l) ∙ ap kind_of (sym (eqb-true _ _ e)) ∙ kind_of_number k
 
 starts_right : (ks ls : List Kind) (c : Cell) (at : ℕ) → starts ks ls ≡ true → operands_ok ls c at ≡ true → Right ks c at
 unfolding starts Right
@@ -151,7 +150,7 @@ of_class c e = ap (λ (k : Class). view_as k c) e
 pub head-view : (p d after : ℕ) (c : Cell) → head_check p d after c ≡ Good → view c ≡ act c none true
 head-view p d after c g =
     let t = four_true (eqb (byte c 0) 0xf0) (leb (code_count c) max_instructions) (leb (event_count c) max_events) (leb (code_count c + event_count c) after) ((head-good p d after c).0 g).0 in
-    let e : byte c 0 ≡ 0xf0 = eqb_true _ _ t.0 in
+    let e : byte c 0 ≡ 0xf0 = eqb-true _ _ t.0 in
     of_class c (ap class_of e ∙ no_class 0xf0 (omega arith))
 
 -- a Borrow event's kind is no command, a Write event's is the number of Assert

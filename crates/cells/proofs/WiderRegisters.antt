@@ -12,7 +12,7 @@ use lib.ListN.{drop}
 use Rattle.cells.specs.Answers.{or_else, unless}
 use Rattle.cells.specs.Bytes.{byte, half, zeros}
 use Rattle.cells.specs.Cells.{Cell}
-use Rattle.cells.specs.Check.{registers, present, operand_ok, operands_ok, is_command, row_ok, instruction_check}
+use Rattle.cells.specs.Check.{registers, present, operand_ok, operands_ok, is_command, instruction_check}
 use Rattle.cells.specs.Table.{row_of, width_of}
 use Rattle.cells.specs.declared.table.Kind.{Kind}
 use Rattle.cells.specs.declared.table.Kind.TheVariants.{Reg, OptReg, Flag, Quad, Two, Four, Eight, Site}

@@ -1,5 +1,5 @@
 -- Promise: answers of a check, and 'the first refusal in order'.
-use Rattle.std.specs.Prelude.{ℕ, List, [], ◌∷◌, ◌++◌, Bool, cond}
+use Rattle.std.specs.Prelude.{List, [], ◌∷◌, ◌++◌, Bool, cond}
 use Rattle.cells.specs.Cells.{Cell}
 use Rattle.cells.specs.declared.refusal.Refusal.{Refusal}
 use Rattle.cells.specs.declared.refusal.Checked.{Checked}

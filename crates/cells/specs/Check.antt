@@ -1,6 +1,6 @@
 -- Promise: the check of one cell (document 01, 'Answers of the operations'): 2 a head whose first byte is not F0, or whose counts pass a limit or the
 -- image's end; 3 an unknown command or event kind; 4 an operand out of range, or a spare byte or an absent value not zero.
-use Rattle.std.specs.Prelude.{ℕ, ◌+◌, List, [], ◌∷◌, Bool, true, false, cond, ◌&&◌, ltb, leb, eqb, drop}
+use Rattle.std.specs.Prelude.{ℕ, ◌+◌, List, [], ◌∷◌, Bool, true, cond, ◌&&◌, ltb, leb, eqb, drop}
 use Rattle.cells.specs.Bytes.{byte, half, word, zeros}
 use Rattle.cells.specs.Cells.{Cell}
 use Rattle.cells.specs.Table.{row_of, width_of, event_row, head_row}

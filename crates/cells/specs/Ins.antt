@@ -1,5 +1,5 @@
 -- Promise: an instruction cell by what its run and the passes need of it.
-use Rattle.std.specs.Prelude.{Bool, true, false, ℕ, eqb}
+use Rattle.std.specs.Prelude.{Bool, false, ℕ, eqb}
 use Rattle.std.proofs.Math.Option.{Option, none, some}
 use Rattle.leaves.specs.declared.quad.Quad.{Quad}
 use Rattle.cells.specs.Cells.{Cell}

@@ -1,5 +1,5 @@
 -- Promise: what an instruction cell is, by the table of commands; and the cell that loads a constant.
-use Rattle.std.specs.Prelude.{Bool, true, false, cond, not, List, [], ◌∷◌, ◌++◌, ℕ, ◌+◌, ◌*◌, ◌-◌, ◌<◌, eqb, leb, replicate}
+use Rattle.std.specs.Prelude.{Bool, true, false, cond, not, ◌∷◌, ◌++◌, ℕ, ◌-◌, ◌<◌, eqb, leb, replicate}
 use Rattle.std.proofs.Math.Option.{Option, none, some}
 use Rattle.leaves.specs.Quads.{number_of, quad_of}
 use Rattle.leaves.specs.declared.quad.Quad.{Quad}

@@ -3,6 +3,8 @@ ghost use Rattle.std.specs.Prelude.{◌≡◌, ◌++◌, ℕ, ◌+◌, ◌*◌, 
 ghost use Rattle.cells.specs.Bytes.{half as «half_of», word as «word_of», long as «long_of»};
 ghost use Rattle.cells.specs.Cells.{cell_at};
 
+use crate::buffer;
+
 // Bytes in a cell.
 pub const CELL: usize = 16;
 
@@ -60,5 +62,5 @@ pub fn put_cell(src: &[u8], k: usize, dst: &mut [u8], j: usize)
     let b = a + CELL;
     let d = CELL * j;
     let e = d + CELL;
-    bytes::copy(&src[a..b], &mut dst[d..e]);
+    buffer::copy(&src[a..b], &mut dst[d..e]);
 }

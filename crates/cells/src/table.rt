@@ -6,7 +6,7 @@ ghost use Rattle.cells.specs.RowNumbers.{class_at};
 ghost use Rattle.cells.specs.RowNumbers.{kind_of};
 
 // The kinds of an operand: a register, a register behind a presence byte, a bool, a quad, 2, 4 or 8 free bytes, a site.
-#[derive(Drop)]
+#[derive(Clone, Copy)]
 pub enum Kind {
     Reg,
     OptReg,
@@ -20,7 +20,7 @@ pub enum Kind {
 
 // What a command is: a load of one of the six kinds, a computed command of one or two operands, control flow, or an outside
 // action with no dst, with one, or with one that may be absent.
-#[derive(Drop)]
+#[derive(Clone, Copy)]
 pub enum Class {
     NoCommand,
     LoadQ,

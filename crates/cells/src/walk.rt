@@ -6,7 +6,7 @@ use crate::read;
 use crate::read::CELL;
 
 // Which cells of a function, besides its head.
-#[derive(Drop)]
+#[derive(Clone, Copy)]
 pub enum Part {
     Code,
     Events,
@@ -14,7 +14,7 @@ pub enum Part {
 
 // Where the parts of a function stand among an image's bytes: its head from `head` on, its instruction cells from `code` on, its event
 // cells from `events` on, and at `end` the next function.
-#[derive(Drop)]
+#[derive(Clone, Copy)]
 pub struct Span {
     pub head: usize,
     pub code: usize,

@@ -6,7 +6,7 @@ use Prim.Native.Nat.{ℕ, suc, ◌+◌, ◌-◌, ◌*◌, ◌/◌, ◌≤◌, �
 use native.Mathlib.Omega.{arith}
 use native.Mathlib.Numerals.{add-one}
 use lib.ListN.{length, get_or, take, drop, length-append, drop_of_length-le}
-use lib.Seq.{take-suc, drop_cons}
+use lib.Seq.{take-suc, drop-cons}
 use Rattle.cells.specs.Cells.{Cell, cells, cell_at, flat, over}
 use Rattle.cells.specs.Lists.{only}
 use Rattle.cells.proofs.Cells.{length-cells, cell_at_lem, length-cell_at, flat_append}
@@ -47,7 +47,7 @@ pub cells_cons : (s : List ℕ) (i : ℕ) → i < length s / 16 → drop i (cell
 cells_cons s i h =
     let l : i < length (cells s) = omega (arith, length-cells s) in
     let e : suc i ≡ i + 1 = omega arith in
-    drop_cons (cells s) i [] l ∙ ap₂ (λ (c : Cell) (t : List Cell). c ∷ t) (cell_at_lem s i h) (ap (λ (j : ℕ). drop j (cells s)) e)
+    drop-cons (cells s) i [] l ∙ ap₂ (λ (c : Cell) (t : List Cell). c ∷ t) (cell_at_lem s i h) (ap (λ (j : ℕ). drop j (cells s)) e)
 
 pub cells-none : (s : List ℕ) (i : ℕ) → length s / 16 ≤ i → drop i (cells s) ≡ []
 cells-none s i h =

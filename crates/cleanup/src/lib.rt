@@ -1,4 +1,5 @@
 // Cleanup of one function (`StructuralCleanupPass`): four sweeps over the instructions, then the events of the sites that the second removed.
+#![tactic(auto)]
 pub mod events;
 pub mod marks;
 pub mod sweeps;
@@ -15,7 +16,7 @@ use cells::read::CELL;
 use sites::FEW;
 
 // How many cells a function has that was written, and how many rewrites were counted.
-#[derive(Drop)]
+#[derive(Clone, Copy)]
 pub struct FunctionReport {
     pub instructions: usize,
     pub events: usize,

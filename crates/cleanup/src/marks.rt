@@ -8,14 +8,14 @@ use cells::read::CELL;
 use cells::table::Class;
 
 // A number that may be there.
-#[derive(Drop)]
+#[derive(Clone, Copy)]
 pub enum Key {
     Nothing,
     Of(usize),
 }
 
 // What a command is to the sweeps. A Load is one of the five kinds that may be removed.
-#[derive(Drop)]
+#[derive(Clone, Copy)]
 pub enum Mark {
     Other,
     Label,
@@ -25,7 +25,7 @@ pub enum Mark {
 }
 
 // A cell's mark and its first operand: a label's name, a jump's label, a load's register.
-#[derive(Drop)]
+#[derive(Clone, Copy)]
 pub struct Seen {
     pub mark: Mark,
     pub operand: usize,

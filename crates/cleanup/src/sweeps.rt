@@ -11,7 +11,7 @@ use crate::marks::{Key, Mark, Seen};
 use cells::read::CELL;
 
 // Which sweep.
-#[derive(Drop)]
+#[derive(Clone, Copy)]
 pub enum SweepKind {
     Labels,
     Unreachable,

@@ -13,7 +13,7 @@ use leaves::{float, quad, signed};
 
 // A barrier; a load's dst and value; a computed command with its byte, dst, lhs and rhs; another command that writes a
 // register; any other.
-#[derive(Drop)]
+#[derive(Clone, Copy)]
 pub enum Command {
     Barrier,
     Load(usize, ConstVal),

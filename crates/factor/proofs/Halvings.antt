@@ -8,7 +8,7 @@ use native.Mathlib.Omega.{arith}
 use lib.Dec.{eqb, leb, ltb}
 use lib.IntN.{ℤ, pos, negsuc, neg_ℤ, nat_abs, ◌*ℤ◌}
 use lib.Pow.{pow_pos}
-use borrow.Author.Tests.{ltb-true, ltb-false, leb-true, leb-false, lt-ltb, eqb_true, eqb_false}
+use borrow.Author.Tests.{ltb-true, ltb-false, leb-true, leb-false, lt-ltb, eqb-true, eqb-false}
 use mir.Syntax.{w32}
 use mir.Val.{SFits, Fits, of_z, to_z}
 use mir.Facts.{to_z-of_z, of_z-to_z}
@@ -117,10 +117,10 @@ modulo_answers : (k w a : ℕ) → k ≤ 32 → Answers (Solves a w (2 ^ k)) (fa
 unfolding factor_modulo
 modulo_answers zero w a l = record { is = (refl, mod-one (a * 0) ∙ sym (mod-one w)); nearest = λ y f. omega arith; positive = λ f. refl }
 modulo_answers (suc k) w a l = by_test (eqb (a % 2) 1)
-    (λ t. rw t (odd_answers (suc k) w a l (eqb_true (a % 2) 1 t)))
-    (λ t. let p : a % 2 ≡ 1 → ⊥ = eqb_false (a % 2) 1 t in rw t (by_test (eqb (w % 2) 1)
-    (λ u. rw u (never_answers k w a (omega arith) (eqb_true (w % 2) 1 u)))
-    (λ u. let q : w % 2 ≡ 1 → ⊥ = eqb_false (w % 2) 1 u in rw u (even_answers k w a (omega arith) (omega arith) (factor_modulo k (w / 2) (a / 2)) (modulo_answers k (w / 2) (a / 2) (omega arith))))))
+    (λ t. rw t (odd_answers (suc k) w a l (eqb-true (a % 2) 1 t)))
+    (λ t. let p : a % 2 ≡ 1 → ⊥ = eqb-false (a % 2) 1 t in rw t (by_test (eqb (w % 2) 1)
+    (λ u. rw u (never_answers k w a (omega arith) (eqb-true (w % 2) 1 u)))
+    (λ u. let q : w % 2 ≡ 1 → ⊥ = eqb-false (w % 2) 1 u in rw u (even_answers k w a (omega arith) (omega arith) (factor_modulo k (w / 2) (a / 2)) (modulo_answers k (w / 2) (a / 2) (omega arith))))))
 
 -- ---- of the leaf's product
 

@@ -10,7 +10,7 @@ use lib.IntN.{ℤ, pos, negsuc, neg_ℤ, nat_abs, ◌*ℤ◌, pos-ne-negsuc}
 use lib.Signed.{mag, quot_z}
 use mir.Syntax.{w32}
 use mir.Val.{SFits}
-use borrow.Author.Tests.{ltb-true, ltb-false, lt-ltb, le-ltb, eqb_true}
+use borrow.Author.Tests.{ltb-true, ltb-false, lt-ltb, le-ltb, eqb-true}
 use Rattle.leaves.specs.Signed.{in_i32, is_zero, checked_as}
 use Rattle.leaves.specs.Fixed.{fx_scale, mul_fx}
 use Rattle.leaves.specs.declared.constant.ConstVal.TheVariants.{Fx}
@@ -159,7 +159,7 @@ module _ (w a : ℤ) (h : in_i32 w ≡ true) where
 
   -- by 0 there is none
   by_zero_lem : 0 < nat_abs w → is_zero a ≡ true → Answers Is NoFactor
-  by_zero_lem l z = let e : nat_abs a ≡ 0 = eqb_true (nat_abs a) 0 z in no_size (λ x f. let g : 0 * x / 1000 ≡ nat_abs w = ap (λ (n : ℕ). n * x / 1000) (sym e) ∙ f in omega arith)
+  by_zero_lem l z = let e : nat_abs a ≡ 0 = eqb-true (nat_abs a) 0 z in no_size (λ x f. let g : 0 * x / 1000 ≡ nat_abs w = ap (λ (n : ℕ). n * x / 1000) (sym e) ∙ f in omega arith)
 
 -- and for 0 it is 0
 zero_product : (a : ℤ) → a *ℤ pos 0 ≡ pos 0
@@ -167,8 +167,8 @@ zero_product (pos a) = rw (mul-zero a)
 zero_product (negsuc a) = rw (mul-zero (suc a))
 
 zero_is : (b : ℤ) → is_zero b ≡ true → b ≡ pos 0
-zero_is (pos n) e = ap pos (eqb_true n 0 e)
-zero_is (negsuc n) e = absurd (omega (arith, eqb_true (suc n) 0 e))
+zero_is (pos n) e = ap pos (eqb-true n 0 e)
+zero_is (negsuc n) e = absurd (omega (arith, eqb-true (suc n) 0 e))
 
 for_zero : (w a : ℤ) → is_zero w ≡ true → Answers (IsFactor mul_fx (Fx w) a) (Found (pos 0))
 unfolding mul_fx

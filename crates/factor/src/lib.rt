@@ -1,5 +1,6 @@
 // Which factor gives this score? Of all i32 whose product with a factor is a wanted value, the one nearest zero, and of two equally near the
 // positive one. All work is done at 64 bits, on sizes and on two's complement bits, so that nothing overflows.
+#![tactic(auto)]
 mod modular;
 pub mod size;
 
@@ -11,7 +12,7 @@ use modular::factor_modulo;
 use size::{above, below, least_size, magnitude, product};
 
 // The factor, or none: refusal 36.
-#[derive(Drop)]
+#[derive(Clone, Copy)]
 pub enum Factor {
     Found(i32),
     NoFactor,

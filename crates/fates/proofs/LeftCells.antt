@@ -7,7 +7,7 @@ use Prim.Native.Nat.{ℕ, zero, suc, ◌+◌, ◌<◌}
 use native.Mathlib.Numerals.{add-one}
 use native.Mathlib.Omega.{arith}
 use lib.ListN.{length, get_or, drop, drop_of_length-le, length-map}
-use lib.Seq.{drop_cons}
+use lib.Seq.{drop-cons}
 use Rattle.leaves.specs.Verdicts.{value_in}
 use Rattle.leaves.specs.declared.verdict.Verdict.{Verdict}
 use Rattle.leaves.specs.declared.verdict.Verdict.TheVariants.{Value, LeftUnknown as LeftIs, RightUnknown as RightIs, Unfit as UnfitIs, DivisorZero as ZeroIs, OutOfRange as RangeIs, NotComputed}
@@ -78,7 +78,7 @@ module _ (cs : List Cell) where
   in_from j zero e = sym (drop_of_length-le cs {i = j} (omega arith))
   in_from j (suc n) e =
       let h : j < length cs = omega arith in
-      rw (drop_cons cs j [] h, ← add-one j) (ap (◌∷◌ (cell_in cs j)) (in_from (j + 1) n (omega arith)))
+      rw (drop-cons cs j [] h, ← add-one j) (ap (◌∷◌ (cell_in cs j)) (in_from (j + 1) n (omega arith)))
 
   -- the cells at all positions are the cells
   pub in_all : map (cell_in cs) (up_from 0 (length cs)) ≡ cs

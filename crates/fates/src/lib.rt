@@ -1,4 +1,5 @@
 // What became of a cell under the default rewrite (document 02, W6): of one cell of an image, and of all cells of a function at once.
+#![tactic(auto)]
 pub mod events;
 pub mod judge;
 pub mod number;
@@ -19,7 +20,7 @@ use cells::refusal::{Checked, Refusal};
 use cells::walk;
 
 // Why a kept command that the default fold could compute was not folded: the first that applies. Nothing: no such command.
-#[derive(Drop)]
+#[derive(Clone, Copy)]
 pub enum Reason {
     Nothing,
     LeftUnknown,
@@ -30,7 +31,7 @@ pub enum Reason {
 }
 
 // Unreachable: behind the Ret or Jmp at that position of the image. Folded: the command that loads the value, and the value's bits.
-#[derive(Drop)]
+#[derive(Clone, Copy)]
 pub enum Fate {
     RepeatedLabel,
     Unreachable(usize),
@@ -42,7 +43,7 @@ pub enum Fate {
 }
 
 // The answer: the fate; a refusal of the site check; or there is nothing to tell (31), of a head or past the end.
-#[derive(Drop)]
+#[derive(Clone, Copy)]
 pub enum CellFate {
     Told(Fate),
     Refused(Refusal),

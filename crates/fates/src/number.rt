@@ -22,7 +22,7 @@ pub const EVENT_GONE: u8 = 6;
 pub const KEPT: u8 = 7;
 
 // A kind, and what is told beside it: the position, or the bits.
-#[derive(Drop)]
+#[derive(Clone, Copy)]
 pub struct Numbered {
     pub kind: u8,
     pub value: u64,

@@ -4,7 +4,7 @@ use mathlib.Core.List.{List, [], ◌∷◌}
 use Prim.Native.Nat.{ℕ, ◌+◌, ◌/◌, ◌%◌, ◌≤◌, ◌<◌}
 use native.Mathlib.Nat.{add_assoc}
 use native.Mathlib.Omega.{arith}
-use borrow.Author.Tests.{leb-true, lt-leb, le-leb, ne_eqb, eqb_true}
+use borrow.Author.Tests.{leb-true, lt-leb, le-leb, ne_eqb, eqb-true}
 use lib.Dec.{leb, eqb}
 use lib.ListN.{length, get_or, drop, drop_of_length-le}
 use Rattle.cells.specs.Answers.{or_else}
@@ -90,4 +90,4 @@ unfolding image_answer
 accepted s g =
     let w = test_good (good_length s) (functions_answer 0 0 (functions (cells s))) Length g in
     let t = and_true (leb (length s) max_image) (eqb (length s % 16) 0) w.0 in
-    (leb-true _ _ t.0, eqb_true _ _ t.1, w.1)
+    (leb-true _ _ t.0, eqb-true _ _ t.1, w.1)

@@ -1,4 +1,5 @@
 // The image check and the site check. Neither has a condition on the image's bytes, and neither writes.
+#![tactic(auto)]
 pub mod check;
 
 ghost use Rattle.std.specs.Prelude.{◌≡◌};

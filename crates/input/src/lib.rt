@@ -1,18 +1,19 @@
 // Standard input, read to its end.
+#![tactic(auto)]
 ghost use Rattle.std.specs.Prelude.{◌≡◌, ◌≤◌, ◌<◌, min, length, take};
 ghost use Rattle.input.specs.Reading.{StepWithin, Within};
 
 use libc::STDIN_FILENO;
 
 // What standard input held: so many bytes, which stand at the start of the buffer.
-#[derive(Drop)]
+#[derive(Clone, Copy)]
 pub enum Input {
     Bytes(usize),
     InputFailed,
 }
 
 // What one read found: bytes up to a position, or the input's end.
-#[derive(Drop)]
+#[derive(Clone, Copy)]
 enum Step {
     Upto(usize),
     End,

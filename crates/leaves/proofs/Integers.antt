@@ -138,4 +138,4 @@ residue_mul (negsuc m) (negsuc n) h k = residue_pos (suc m * suc n) ∙ same_res
 -- the answer made of the number whose bits are z's residue
 pub wrapped : (r z : ℤ) (n : ℕ) → mag r < 2147483648 → r ≡ to_z w32 n → n ≡ residue z 4294967296 → Value (I32 (to_z w32 (of_z w32 r))) ≡ Value (I32 (wrap z))
 unfolding wrap
-wrapped r z n ok e f = ap (λ (x : ℤ). Value (I32 x)) (to_z-of_z (record { sfits = ok }) ∙ e ∙ ap (λ (m : ℕ). to_z w32 m) f)
+wrapped r z n ok e f = ap (λ (x : ℤ). Value (I32 x)) (to_z-of_z {w = w32} (record { sfits = ok }) ∙ e ∙ ap (λ (m : ℕ). to_z w32 m) f)

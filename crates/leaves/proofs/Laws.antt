@@ -1,5 +1,5 @@
 -- Laws that show the definitions of specs/ to be the right ones; what each number leaf answers is in Reasons.antt.
-use Rattle.std.proofs.Common.{◌≡◌, ℕ, zero, suc, ◌+◌, ◌-◌, ◌*◌, ◌/◌, ◌%◌, ◌^◌, ◌<◌, ◌≤◌, Bool, true, false, cond, not, eqb, ltb, leb, ◌⊎◌, ℤ, pos, negsuc, ◌+ℤ◌, ◌*ℤ◌, neg_ℤ, nat_abs, sym, refl, ap, ◌∙◌, subst, inl, inr, ⊎_elim, zero-lt-suc, mul-pos, div-add-mod', zero-mul, arith, to_z-of_z, w32, SFits, to_z, of_z, ltb-true, le-ltb, lt-ltb, eq-eqb, ne_eqb, eqb_true, le-leb, leb-true}
+use Rattle.std.proofs.Common.{◌≡◌, ℕ, zero, suc, ◌+◌, ◌-◌, ◌*◌, ◌/◌, ◌%◌, ◌^◌, ◌<◌, ◌≤◌, Bool, true, false, cond, not, eqb, ltb, leb, ◌⊎◌, ℤ, pos, negsuc, ◌+ℤ◌, ◌*ℤ◌, neg_ℤ, nat_abs, sym, refl, ap, ◌∙◌, subst, inl, inr, ⊎_elim, zero-lt-suc, mul-pos, div-add-mod', zero-mul, arith, to_z-of_z, w32, SFits, to_z, of_z, ltb-true, le-ltb, lt-ltb, eq-eqb, ne_eqb, eqb-true, le-leb, leb-true}
 use mathlib.Core.Path.{subst⁻¹}
 use native.Mathlib.Nat.{zero-div}
 use lib.Signed.{le_z, lt_z, quot_z, rem_z}
@@ -8,7 +8,7 @@ use lib.Ieee
 use lib.Ieee as Ieee
 use lib.Ieee.{Float, nan, inf, fin, binary64, unlike, up, down}
 use lib.Ieee.Fits.{up_pos}
-use borrow.Author.Tests.{eqb_false, lt-leb}
+use borrow.Author.Tests.{eqb-false, lt-leb}
 use mir.Facts.{of_z-to_z, sfits_to_z}
 use Rattle.leaves.specs.declared.constant.ConstVal.{ConstVal}
 use Rattle.leaves.specs.declared.constant.ConstVal.TheVariants.{F64}
@@ -78,7 +78,7 @@ positive (suc n) h = omega arith
 pub truncated : (z d : ℤ) → is_zero d ≡ false → Truncated z d (quot_z z d) (rem_z z d)
 truncated z d n = record {
   whole = Division.whole z d;
-  size = Division.size z d (positive (nat_abs d) (eqb_false (nat_abs d) 0 n));
+  size = Division.size z d (positive (nat_abs d) (eqb-false (nat_abs d) 0 n));
   not_negative = Division.not_negative z d;
   not_positive = Division.not_positive z d;
 }
@@ -124,10 +124,10 @@ lt_i32 (negsuc a) (negsuc b) = less_not b a
 -- ---- equality of two integers
 
 pub same_sound : (a b : ℤ) → same_z a b ≡ true → a ≡ b
-same_sound (pos m) (pos n) t = ap pos (eqb_true m n t)
+same_sound (pos m) (pos n) t = ap pos (eqb-true m n t)
 same_sound (pos m) (negsuc n) t = absurd (subst Dec.T (sym t) tt)
 same_sound (negsuc m) (pos n) t = absurd (subst Dec.T (sym t) tt)
-same_sound (negsuc m) (negsuc n) t = ap negsuc (eqb_true m n t)
+same_sound (negsuc m) (negsuc n) t = ap negsuc (eqb-true m n t)
 
 pub same_self : (a : ℤ) → same_z a a ≡ true
 same_self (pos m) = eq-eqb m m refl
@@ -219,7 +219,7 @@ zero_bits n h t = go (float_of n) refl t
     go (inf s) y z = absurd (subst Dec.T (sym z) tt)
     go (fin s m e) y z = either s (
         sym (forth n h (subst⁻¹ (λ (x : Float). Dec.T (not (Ieee.is_nan x))) y tt))
-        ∙ ap bits_of (y ∙ ap (λ (k : ℕ). fin s k e) (eqb_true m 0 (no_digits s m e z)))
+        ∙ ap bits_of (y ∙ ap (λ (k : ℕ). fin s k e) (eqb-true m 0 (no_digits s m e z)))
         ∙ zero_written s e
         )
 

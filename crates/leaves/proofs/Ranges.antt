@@ -1,6 +1,6 @@
 -- How large a sum, a product or a quotient of signed integers is, and what a test of one says.
 use Rattle.std.proofs.Common.{◌≡◌, ℕ, zero, suc, ◌+◌, ◌-◌, ◌*◌, ◌/◌, ◌<◌, ◌≤◌, Bool, true, false, ◌&&◌, eqb, leb, ℤ, pos, negsuc, ◌+ℤ◌, ◌-ℤ◌, ◌*ℤ◌, neg_ℤ, nat_abs, sym, refl, ap, ◌∙◌, subst, ap₂, ⊎_elim, le_trans, le_of_eq, lt_of_le_of_lt, mul-le-mul, div-le_self, arith, to_z-of_z, w32, w64, SFits, to_z, of_z, ltb-true, eq-eqb, ne_eqb}
-use mathlib.Core.Bool.{and_true}
+use mathlib.Core.Bool.{and-true}
 use native.Mathlib.Decide.{ℕ_discrete}
 use lib.IntN.{sub_ℕ}
 use lib.Signed.{mag, le_z, quot_z, rem_z, mag_rem}
@@ -79,11 +79,11 @@ scaled_quotient a b {k} h l = quotient_small (a *ℤ pos k) b (scaled_small a h 
 
 -- two i32 as they stand in a call
 pub passed : {A : Type 0} (f : ℤ → ℤ → A) (a b : ℤ) → mag a < 2147483648 → mag b < 2147483648 → f (to_z w32 (of_z w32 a)) (to_z w32 (of_z w32 b)) ≡ f a b
-passed f a b h k = ap₂ f (to_z-of_z (record { sfits = h })) (to_z-of_z (record { sfits = k }))
+passed f a b h k = ap₂ f (to_z-of_z {w = w32} (record { sfits = h })) (to_z-of_z {w = w32} (record { sfits = k }))
 
 -- an operand at 64 bits, as `wide` gives it, is the operand
 pub widened : {a r : ℤ} → SFits w32 a → r ≡ to_z w32 (of_z w32 a) → to_z w64 (of_z w64 r) ≡ a
-widened {a} h e = ap (λ (x : ℤ). to_z w64 (of_z w64 x)) (e ∙ to_z-of_z h) ∙ to_z-of_z (sfits_widen tt h)
+widened {a} h e = ap (λ (x : ℤ). to_z w64 (of_z w64 x)) (e ∙ to_z-of_z h) ∙ to_z-of_z {w = w64} (sfits_widen {w = w32} {w' = w64} tt h)
 
 -- an operation at 64 bits is that of the operands
 pub at64 : (f : ℤ → ℤ → ℤ) {a b r s : ℤ} → SFits w32 a → SFits w32 b → r ≡ to_z w32 (of_z w32 a) → s ≡ to_z w32 (of_z w32 b)
@@ -98,7 +98,7 @@ exact kind z y h e = ap (checked_as kind) (to_z-of_z h ∙ e)
 
 pub both_tests : (z : ℤ) → (le_z (negsuc 2147483647) z && le_z z (pos 2147483647)) ≡ in_i32 z
 both_tests (pos n) = sym (leb-suc-suc n 2147483647)
-both_tests (negsuc n) = and_true (leb n 2147483647) ∙ sym (leb-suc-suc n 2147483647)
+both_tests (negsuc n) = and-true (leb n 2147483647) ∙ sym (leb-suc-suc n 2147483647)
 
 -- what `in_i32` answered of z says of it
 pub in_i32-says : {z : ℤ} {b t : Bool} → SFits w64 z → b ≡ in_i32 (to_z w64 (of_z w64 z)) → b ≡ t → in_i32 z ≡ t

@@ -1,5 +1,5 @@
 -- Document 02, W5: what each number leaf answers, whatever its operands: "a value, "divisor zero" or "out of range"", and exactly when. One law a leaf.
-use Rattle.std.proofs.Common.{◌≡◌, ℕ, zero, suc, ◌+◌, ◌-◌, ◌*◌, ◌/◌, ◌%◌, ◌^◌, ◌<◌, ◌≤◌, Bool, true, false, cond, eqb, ltb, leb, ◌⊎◌, ◌↔◌, ℤ, pos, negsuc, ◌+ℤ◌, ◌-ℤ◌, ◌*ℤ◌, sym, refl, ap, inl, inr, ⊎_elim, mod-lt, div-add-mod', arith, w32, SFits, ltb-false, ltb-true, le-ltb, lt-ltb, eq-eqb, eqb_true, le-leb}
+use Rattle.std.proofs.Common.{◌≡◌, ℕ, suc, ◌+◌, ◌-◌, ◌*◌, ◌/◌, ◌%◌, ◌^◌, ◌<◌, ◌≤◌, Bool, true, false, cond, eqb, ltb, leb, ◌⊎◌, ◌↔◌, ℤ, pos, negsuc, ◌+ℤ◌, ◌-ℤ◌, ◌*ℤ◌, sym, refl, ap, inl, inr, ⊎_elim, mod-lt, div-add-mod', arith, w32, SFits, ltb-false, ltb-true, le-ltb, lt-ltb, eq-eqb, eqb-true, le-leb}
 use mathlib.Core.Bool.{false≢true}
 use lib.Signed.{lt_z, quot_z, rem_z}
 use lib.Ieee as Ieee
@@ -99,8 +99,8 @@ unfolding mul_i32
 product_i32 a b = total (I32 (wrap (a *ℤ b)))
 
 is_zero_lem : (b : ℤ) → (is_zero b ≡ true) ↔ (b ≡ pos 0)
-is_zero_lem (pos n) = ((λ t. ap pos (eqb_true n 0 t)), (λ e. ap is_zero e))
-is_zero_lem (negsuc n) = ((λ t. let e : suc n ≡ 0 = eqb_true (suc n) 0 t in absurd (omega arith)), (λ e. ap is_zero e))
+is_zero_lem (pos n) = ((λ t. ap pos (eqb-true n 0 t)), (λ e. ap is_zero e))
+is_zero_lem (negsuc n) = ((λ t. let e : suc n ≡ 0 = eqb-true (suc n) 0 t in absurd (omega arith)), (λ e. ap is_zero e))
 
 not_zero : (b : ℤ) → (b ≡ pos 0 → ⊥) → is_zero b ≡ false
 not_zero b n = go (is_zero b) (λ t. n ((is_zero_lem b).0 t))
@@ -223,8 +223,8 @@ divided_u32 a b = (
   record {
     whole = sym (div-add-mod' a b);
     smaller = λ h. mod-lt a h;
-    quotient = read (eqb_true b 0, eq-eqb b 0) inside (by_tests (eqb b 0) true (U32 (a / b)));
-    remainder = read (eqb_true b 0, eq-eqb b 0) inside (by_tests (eqb b 0) true (U32 (a % b)));
+    quotient = read (eqb-true b 0, eq-eqb b 0) inside (by_tests (eqb b 0) true (U32 (a / b)));
+    remainder = read (eqb-true b 0, eq-eqb b 0) inside (by_tests (eqb b 0) true (U32 (a % b)));
   },
 )
 

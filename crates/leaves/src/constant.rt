@@ -6,7 +6,7 @@ use crate::compare::{eq_f64, eq_i32};
 use crate::quad::{Quad, same};
 
 // Unknown stands first: it is what a table of these holds at the start.
-#[derive(Drop)]
+#[derive(Clone, Copy)]
 pub enum ConstVal {
     Unknown,
     Quad(Quad),

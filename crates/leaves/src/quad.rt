@@ -2,7 +2,7 @@
 ghost use Rattle.std.specs.Prelude.{◌≡◌};
 ghost use Rattle.leaves.specs.Quads.{told_false, told_true, of_told, q_and, q_or, q_not, q_impl, q_truth_and, q_truth_or, q_truth_not, q_truth_impl, q_same, quad_of, number_of};
 
-#[derive(Drop)]
+#[derive(Clone, Copy)]
 pub enum Quad {
     N,
     F,
@@ -11,7 +11,7 @@ pub enum Quad {
 }
 
 // What a number read as a quad answers.
-#[derive(Drop)]
+#[derive(Clone, Copy)]
 pub enum QuadResult {
     Value(Quad),
     Absent,

@@ -7,7 +7,7 @@ use crate::constant::ConstVal;
 // A value, or the first reason against one: the left or only operand is unknown, the right one is, they are not of the command's
 // kinds, the divisor is zero, the result is out of range; or the command is not computed at all. A number leaf, which is given both operands,
 // answers a value, DivisorZero or OutOfRange.
-#[derive(Drop)]
+#[derive(Clone, Copy)]
 pub enum Verdict {
     Value(ConstVal),
     LeftUnknown,

@@ -1,4 +1,5 @@
 // The text of an answer, as the printing program writes it, into a buffer that the caller lends.
+#![tactic(auto)]
 ghost use Rattle.std.specs.Prelude.{◌≡◌, ◌++◌, ◌+◌, ◌*◌, ◌/◌, ◌%◌, ◌≤◌, ◌<◌, length, take};
 ghost use Rattle.cells.specs.Cells.{cells as «cells_of», over};
 ghost use Rattle.listing.specs.Decimal.{digit as «digit_of», decimal};
@@ -10,7 +11,7 @@ use cells::read::{CELL, wide};
 use cells::refusal::{Checked, Numbers, numbers_of};
 
 // A text of so many bytes stands at the start of the buffer; or the buffer is too short for it, and is as it was.
-#[derive(Drop)]
+#[derive(Clone, Copy)]
 pub enum Listed {
     Text(usize),
     TooShort,

@@ -1,1 +1,2 @@
 // How a function runs: definitions and theorems alone, no code.
+#![tactic(auto)]

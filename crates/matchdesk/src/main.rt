@@ -1,5 +1,6 @@
 // The program: reads an image or a packed form on standard input, does the job that its argument names, and writes what the job says. Or finds
 // the other factor of a product, by its arguments alone.
+#![tactic(auto)]
 mod product;
 
 ghost use Rattle.std.specs.Prelude.{◌≡◌, ◌≤◌, length, replicate};
@@ -27,7 +28,7 @@ use sealing::Sealing;
 
 // What the program can do: the text of a rewrite's answer, by a rule set, or of the rewrite until it rests; the rewritten image itself; the site
 // check; the image's pages; its packed form; of a packed form, the image; and the sealing check.
-#[derive(Drop)]
+#[derive(Clone, Copy)]
 enum Job {
     Rewrite(RuleSet),
     Rest,
@@ -40,14 +41,14 @@ enum Job {
 }
 
 // What an argument asks for.
-#[derive(Drop)]
+#[derive(Clone, Copy)]
 enum Asked {
     For(Job),
     Unknown,
 }
 
 // What a job says: so many bytes at the start of the buffer for standard output, and of the one for standard error.
-#[derive(Drop)]
+#[derive(Clone, Copy)]
 struct Said {
     output: usize,
     error: usize,

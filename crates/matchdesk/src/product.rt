@@ -12,14 +12,14 @@ use listing::{append, list_refused};
 use numbers::{Number, put_i32, read_i32};
 
 // Which product: that of two Fx, or that of two I32.
-#[derive(Drop)]
+#[derive(Clone, Copy)]
 pub enum Product {
     Fx,
     I32,
 }
 
 // What a word says of it.
-#[derive(Drop)]
+#[derive(Clone, Copy)]
 pub enum Chosen {
     By(Product),
     Neither,

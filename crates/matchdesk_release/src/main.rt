@@ -1,5 +1,6 @@
 // The program behind `./matchdesk release`: reads a release on standard input, and writes the framed output to standard output and a line an image to
 // standard error. Images are rewritten one by one, so that besides the input only one image is held.
+#![tactic(auto)]
 ghost use Rattle.std.specs.Prelude.{◌≡◌, ◌≤◌, length, replicate};
 ghost use Rattle.io.specs.Counts.{IsPrefixLen};
 ghost use Rattle.listing.specs.Promises.{TextWritten};
@@ -15,7 +16,7 @@ use release::Framing;
 use release::place::{ANSWER, NUMBER};
 
 // What is said: so many bytes at the start of the buffer for standard output, and of the one for standard error.
-#[derive(Drop)]
+#[derive(Clone, Copy)]
 struct Said {
     output: usize,
     error: usize,

@@ -9,7 +9,7 @@ use native.Mathlib.Omega.{arith}
 use borrow.Author.Tests.{leb-true, leb-false, le-leb, lt-leb, le-ltb, eq-eqb, ne_eqb}
 use lib.Dec.{leb}
 use lib.ListN.{length, get_or, take, drop, drop_of_length-le}
-use lib.Seq.{drop_cons, take-length}
+use lib.Seq.{drop-cons, take-length}
 use Rattle.cells.proofs.Facts.{by_test, and_true}
 use Rattle.listing.specs.Decimal.{value_from, value}
 use Rattle.numbers.specs.Numbers.{plus, minus, is_digit, all_digits, with_sign, ranged, number_of, number_in}
@@ -58,7 +58,7 @@ reading_none s h = record { some = h; within = omega arith; most = omega arith; 
 module _ {s : List ℕ} {n i : ℕ} (r : Reading s n i) where
   module _ (h : i < length s) where
     at : size_from n (get_or s i 0 ∷ drop (suc i) s) ≡ size_in s
-    at = ap (size_from n) (sym (drop_cons s i 0 h)) ∙ r.same
+    at = ap (size_from n) (sym (drop-cons s i 0 h)) ∙ r.same
 
     pub reading_not : is_digit (get_or s i 0) ≡ false → NoSize ≡ size_in s
     reading_not e = sym (not_digit n (get_or s i 0) (drop (suc i) s) e) ∙ at

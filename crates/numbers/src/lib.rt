@@ -1,4 +1,5 @@
 // An i32 in decimal: read from a word, and written.
+#![tactic(auto)]
 ghost use Rattle.std.specs.Prelude.{◌≡◌, ◌++◌, ◌∷◌, [], ◌≤◌, length};
 ghost use Rattle.listing.specs.Promises.{TextWritten};
 ghost use Rattle.listing.specs.Text.{line_feed};
@@ -10,14 +11,14 @@ use leaves::signed::in_i32;
 use listing::{append, put_decimal};
 
 // What a word says.
-#[derive(Drop)]
+#[derive(Clone, Copy)]
 pub enum Number {
     Value(i32),
     NoNumber,
 }
 
 // What digits stand for, as long as an i32 can have it.
-#[derive(Drop)]
+#[derive(Clone, Copy)]
 enum Size {
     Is(u64),
     NoSize,

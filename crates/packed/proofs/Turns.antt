@@ -7,7 +7,7 @@ use native.Mathlib.Omega.{arith}
 use denote.Enum.Declared.{tag_of}
 use types.Run.{OneOf, miss}
 use lib.ListN.{length, get_or, take, drop, length-append, length-take, length-drop, drop_of_length-le, take-append-drop}
-use lib.Seq.{take-append-add, drop-append-add, length-take-le, drop_cons, drop-drop}
+use lib.Seq.{take-append-add, drop-append-add, length-take-le, drop-cons, drop-drop}
 use Rattle.cells.specs.Cells.{Cell, cells, over}
 use Rattle.cells.specs.declared.refusal.Refusal.TheVariants.{Length}
 use Rattle.cells.proofs.Cells.{length-cells, full_cells, part-cell}
@@ -43,7 +43,7 @@ module _ (s : List ℕ) (i : ℕ) (c : Cell) (h : i < length s / 16) (is : c ≡
   pub cell-there : drop i (cells s) ≡ c ∷ drop (i + 1) (cells s)
   cell-there =
       let l : i < length (cells s) = omega (arith, length-cells s) in
-      drop_cons (cells s) i [] l ∙ ap₂ (λ (x : Cell) (j : ℕ). x ∷ drop j (cells s)) (sym is) (sym (add-one i))
+      drop-cons (cells s) i [] l ∙ ap₂ (λ (x : Cell) (j : ℕ). x ∷ drop j (cells s)) (sym is) (sym (add-one i))
 
   -- what is kept from it on
   module _ (code events : ℕ) (r : Next) (n : NextCell code events c r) where

@@ -6,7 +6,7 @@ use mathlib.Core.Bool.{Bool, true, false, ◌&&◌}
 use Prim.Native.Nat.{ℕ, zero, suc, ◌+◌, ◌-◌, ◌*◌, ◌/◌, ◌%◌, ◌^◌, ◌≤◌, ◌<◌}
 use native.Mathlib.Nat.{add_assoc, add-zero, div-one, not-suc-le-zero}
 use native.Mathlib.Omega.{arith}
-use borrow.Author.Tests.{lt-ltb, le-leb, lt-leb, ltb-true, ltb-false, eqb_true}
+use borrow.Author.Tests.{lt-ltb, le-leb, lt-leb, ltb-true, ltb-false, eqb-true}
 use lib.Dec.{eqb, ltb, leb, leb→le}
 use lib.ListN.{length, take, drop, replicate, length-append, length-drop, length-replicate, take-append-drop, drop_of_length-le, get_or-eq_default, get_or-append}
 use lib.Pow.{shr-shr}
@@ -200,7 +200,7 @@ zeros_are : (s : List ℕ) → zeros s ≡ true → s ≡ replicate (length s) 0
 zeros_are [] z = refl
 zeros_are (b ∷ s) z =
     let t = and_true (eqb b 0) (zeros s) z in
-    ap₂ (λ (x : ℕ) (xs : List ℕ). x ∷ xs) (eqb_true b 0 t.0) (zeros_are s t.1)
+    ap₂ (λ (x : ℕ) (xs : List ℕ). x ∷ xs) (eqb-true b 0 t.0) (zeros_are s t.1)
 
 -- ---- reading back what was kept
 

@@ -6,7 +6,7 @@ ghost use Rattle.packed.specs.Steps.{size_digits, NextCell};
 use cells::{check, read};
 
 // The next cell: how many bytes it keeps, and how many instruction cells and event cells are promised behind it.
-#[derive(Drop)]
+#[derive(Clone, Copy)]
 pub struct Next {
     pub size: usize,
     pub code: usize,

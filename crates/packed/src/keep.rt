@@ -13,7 +13,7 @@ use cells::read;
 use cells::read::CELL;
 
 // What is counted at once: a head, an instruction, or all events of a function; and what is promised behind it.
-#[derive(Drop)]
+#[derive(Clone, Copy)]
 pub struct Counted {
     pub cells: usize,
     pub size: usize,

@@ -1,5 +1,6 @@
 // The packed form: each cell keeps only the bytes that its command, its head or its event defines. Neither operation has a condition on the
 // bytes it is given, neither checks sites, and nothing is written before it is known that all of it is good and fits.
+#![tactic(auto)]
 pub mod form;
 mod keep;
 mod put;
@@ -12,7 +13,7 @@ use cells::refusal::{Checked, Refusal};
 
 // The answer: so many bytes are written; or a refusal; or the packed bytes end inside a cell or before a promised one (32), with the function's
 // position and the cell's.
-#[derive(Drop)]
+#[derive(Clone, Copy)]
 pub enum Packing {
     Bytes(usize),
     Refused(Refusal),

@@ -5,7 +5,7 @@ use mathlib.Core.Bool.{true}
 use mathlib.Core.List.{List, [], ◌∷◌, ◌++◌, append_assoc, append_cancel_left, head-eq_of_cons-eq, tail-eq_of_cons-eq}
 use Prim.Native.Nat.{ℕ, zero, suc, ◌+◌, ◌-◌, ◌/◌, ◌%◌, ◌≤◌, ◌<◌}
 use native.Mathlib.Omega.{arith}
-use borrow.Author.Tests.{ltb-true, eqb_true}
+use borrow.Author.Tests.{ltb-true, eqb-true}
 use lib.Dec.{eqb, ltb, leb}
 use lib.ListN.{length, get_or, take, drop, length-append, take-append-drop}
 use lib.Seq.{ext_get_or, get_or-drop}
@@ -104,7 +104,7 @@ unfolding rows
 known f g w l b =
     let h = f.head in
     let t = four_true (eqb (byte h 0) 0xf0) (leb (code_count h) max_instructions) (leb (event_count h) max_events) (leb (code_count h + event_count h) (there f)) g.head in
-    record { listable = l; first = eqb_true (byte h 0) 0xf0 t.0; spare = g.spare; counted = w.counted; long = w.full.0; bytes = b }
+    record { listable = l; first = eqb-true (byte h 0) 0xf0 t.0; spare = g.spare; counted = w.counted; long = w.full.0; bytes = b }
 
 all_known : (fs : List Function) → All GoodFunction fs → All WellFormed fs → All ListableFunction fs → All Bytes (cells_of_all fs) → All Known fs
 all_known [] g w l b = tt
@@ -134,7 +134,7 @@ name_small f t = omega (arith, byte_small f t 1 (omega arith), byte_small f t 2 
 -- zeros from a byte on (laws of cells/specs/Bytes)
 zero_at : (s : List ℕ) → zeros s ≡ true → (i : ℕ) → get_or s i 0 ≡ 0
 zero_at [] z i = refl
-zero_at (b ∷ s) z zero = eqb_true b 0 (and_true (eqb b 0) (zeros s) z).0
+zero_at (b ∷ s) z zero = eqb-true b 0 (and_true (eqb b 0) (zeros s) z).0
 zero_at (b ∷ s) z (suc i) = zero_at s (and_true (eqb b 0) (zeros s) z).1 i
 
 zeros_from : (n : ℕ) (s : List ℕ) → zeros (drop n s) ≡ true → (i : ℕ) → n ≤ i → get_or s i 0 ≡ 0
@@ -222,7 +222,7 @@ module _ (name : ℕ) (small : name < 65536) where
       (λ y.
       let z = and_true (ltb 0 position) (eqb (position % 49) 0) y in
       let q = same-heading (name_in f) name 1 (position / 49 + 1) (name_small f t.0) small (omega arith) (omega arith) (head-eq_of_cons-eq (rw y at e)) in
-      omega (arith, q.1, ltb-true 0 position z.0, eqb_true (position % 49) 0 z.1))
+      omega (arith, q.1, ltb-true 0 position z.0, eqb-true (position % 49) 0 z.1))
       (λ y. heading_no_cell (name_in f) 1 x.0 position x.1 h (head-eq_of_cons-eq (rw y at e)))
 
   -- at one name and one position, the same lines are the same entries before the same lines

@@ -5,7 +5,7 @@ use mathlib.Core.List.{List, [], ◌∷◌, ◌++◌}
 use Prim.Native.Nat.{ℕ, zero, suc, ◌+◌, ◌-◌, ◌*◌, ◌/◌, ◌%◌, ◌≤◌, ◌<◌}
 use native.Mathlib.Nat.{le_of_suc-le-suc, not-suc-le-zero}
 use native.Mathlib.Omega.{arith}
-use borrow.Author.Tests.{ltb-true, ltb-false, eqb_false}
+use borrow.Author.Tests.{ltb-true, ltb-false, eqb-false}
 use lib.Dec.{ltb, eqb}
 use lib.ListN.{length, get_or, length-append, get_or-append}
 use lib.Seq.{get_or-append_seam}
@@ -137,7 +137,7 @@ module _ (f : Function) where
   headings zero h = refl
   headings (suc p) h =
       let k : ℕ = 49 * suc p in
-      let some : 0 < there f = by_test (eqb (there f) 0) (λ t. absurd (omega (arith, rw t at h))) (λ t. omega (arith, eqb_false (there f) 0 t)) in
+      let some : 0 < there f = by_test (eqb (there f) 0) (λ t. absurd (omega (arith, rw t at h))) (λ t. omega (arith, eqb-false (there f) 0 t)) in
       let a = some_pages (there f) some in
       let b = some_pages k (omega arith) in
       let e : k / 49 + 1 ≡ suc p + 1 = omega arith in

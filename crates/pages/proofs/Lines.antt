@@ -4,7 +4,7 @@ use mathlib.Core.Bool.{true}
 use mathlib.Core.List.{List, [], ◌∷◌, ◌++◌, append-nil}
 use Prim.Native.Nat.{ℕ, zero, suc, ◌+◌, ◌-◌, ◌*◌, ◌/◌, ◌%◌, ◌≤◌, ◌<◌}
 use native.Mathlib.Omega.{arith}
-use borrow.Author.Tests.{leb-true, eqb_true, eqb_false, lt-ltb, ne_eqb}
+use borrow.Author.Tests.{leb-true, eqb-true, eqb-false, lt-ltb, ne_eqb}
 use lib.Dec.{leb, ltb, eqb}
 use lib.ListN.{length, take, drop, length-append, length-drop}
 use lib.Seq.{take_all}
@@ -132,10 +132,10 @@ page_more name (suc i) =
     let b = some_pages (suc i + 1) (omega arith) in
     by_test (eqb (suc i % 49) 0)
     (λ t.
-    let n = ap length (page_some name (suc i) (omega arith) (eqb_true (suc i % 49) 0 t)) in
-    omega (arith, a, b, n, eqb_true (suc i % 49) 0 t))
+    let n = ap length (page_some name (suc i) (omega arith) (eqb-true (suc i % 49) 0 t)) in
+    omega (arith, a, b, n, eqb-true (suc i % 49) 0 t))
     (λ t.
-    let f = eqb_false (suc i % 49) 0 t in
+    let f = eqb-false (suc i % 49) 0 t in
     let n = ap length (page_none name (suc i) f) in
     let g : 0 < suc i % 49 = omega (arith, f) in
     omega (arith, a, b, n, g))

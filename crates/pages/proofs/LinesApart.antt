@@ -8,7 +8,7 @@ use Prim.Native.String.{String}
 use native.Mathlib.Omega.{arith}
 use lib.Dec.{T, eqb, eqb→eq}
 use lib.ListN.{length, get_or, take, drop, length-append}
-use lib.Seq.{drop_cons}
+use lib.Seq.{drop-cons}
 use Rattle.cells.specs.Bytes.{byte}
 use Rattle.cells.specs.Cells.{Cell, flat}
 use Rattle.cells.specs.Names.{command_names, event_names, name_of}
@@ -117,4 +117,4 @@ same-cell p q position c d r s e =
     let k = fill 18 (ascii (name_of q d)) in
     let t = same_pieces a (ascii "  ") (ascii "  ") (line_feed ∷ []) 18 b (hex (drop 1 c)) k (hex (drop 1 d)) (length_name p c r.0) (length_name q d s.0) e in
     let w = row-part p q c d r.0 s.0 (same_row p q c d r.0 s.0 t.0) in
-    (w.0, drop_cons c 0 0 (omega arith) ∙ ap₂ (◌∷◌) w.1 (same-hex (drop 1 c) (drop 1 d) t.1) ∙ sym (drop_cons d 0 0 (omega arith)))
+    (w.0, drop-cons c 0 0 (omega arith) ∙ ap₂ (◌∷◌) w.1 (same-hex (drop 1 c) (drop 1 d) t.1) ∙ sym (drop-cons d 0 0 (omega arith)))

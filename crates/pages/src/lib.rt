@@ -1,5 +1,6 @@
 // Pages for the rule meeting: an accepted image laid out in lines, over the start of a buffer that the caller lends. Nothing is written before
 // it is known that all of it fits.
+#![tactic(auto)]
 mod line;
 mod names;
 
@@ -19,7 +20,7 @@ use cells::walk::Part;
 use cells::{read, walk};
 
 // The answer: so many bytes are written; or a refusal of the site check; or the buffer is shorter than the pages (30).
-#[derive(Drop)]
+#[derive(Clone, Copy)]
 pub enum Paged {
     Laid(usize),
     Refused(Refusal),

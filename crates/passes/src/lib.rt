@@ -1,5 +1,6 @@
 // The rewriting operations on an image: cleanup, CrystalFold, and both, by the Rust's rules (`run_default_opt_passes`) or by the fuller ones.
 // Nothing is written before all checks have passed.
+#![tactic(auto)]
 mod function;
 
 ghost use Rattle.std.specs.Prelude.{◌≡◌, ◌≤◌, length};
@@ -19,7 +20,7 @@ use cells::walk;
 use crystalfold::rules::RuleSet;
 
 // Which passes an operation runs, the fold with its rules: cleanup, CrystalFold, or both in this order.
-#[derive(Drop)]
+#[derive(Clone, Copy)]
 pub enum Pass {
     Cleanup,
     CrystalFold(RuleSet),
@@ -27,14 +28,14 @@ pub enum Pass {
 }
 
 // How many rewrites there were, and whether there was any.
-#[derive(Drop)]
+#[derive(Clone, Copy)]
 pub struct OptReport {
     pub changed: bool,
     pub num_rewrites: usize,
 }
 
 // The answer of a rewriting operation: the length written and the report, or a refusal.
-#[derive(Drop)]
+#[derive(Clone, Copy)]
 pub enum Rewrite {
     Written(usize, OptReport),
     Refused(Refusal),
@@ -112,7 +113,7 @@ pub fn check(image: &[u8], room: usize) -> Checked
 }
 
 // How many cells are written, and how many rewrites there were.
-#[derive(Drop)]
+#[derive(Clone, Copy)]
 pub struct Total {
     pub cells: usize,
     pub rewrites: usize,

@@ -1,5 +1,6 @@
 // A whole release in one call (document 02, W9): images, each behind its length in 4 bytes. Each is rewritten by the default rewrite straight into
 // its place in the output. Nothing is written before the framing is known to be good and both buffers to have room.
+#![tactic(auto)]
 pub mod place;
 
 ghost use Rattle.std.specs.Prelude.{◌≡◌, length};
@@ -14,14 +15,14 @@ use place::{ANSWER, NUMBER};
 
 // The answer: so many bytes are written to the output; or 33: a length or an image past the release's end, an output shorter than the release, or
 // fewer than 12 bytes an image for the answers.
-#[derive(Drop)]
+#[derive(Clone, Copy)]
 pub enum Released {
     Written(usize),
     Refused,
 }
 
 // How many images a release has; or that a length or an image goes past its end.
-#[derive(Drop)]
+#[derive(Clone, Copy)]
 pub enum Framing {
     PastEnd,
     Images(usize),

@@ -1,1 +1,2 @@
 // Cleanup and then CrystalFold of one function: definitions and theorems alone, no code.
+#![tactic(auto)]

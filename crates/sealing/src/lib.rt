@@ -1,5 +1,6 @@
 // The sealing check (document 02, W13): the site check, then one numbering for a whole image: an activation number stands in one function only, and
 // likewise a write number. It has no condition on the image's bytes, and writes nothing.
+#![tactic(auto)]
 ghost use Rattle.std.specs.Prelude.{◌≡◌, ◌/◌, ◌≤◌, length, take};
 ghost use Rattle.cells.specs.Cells.{cells, over};
 ghost use Rattle.cells.specs.Check.{max_image};
@@ -18,7 +19,7 @@ use sites::{Which, list};
 
 // The answer: good; or a refusal of the site check; or a function repeats a number of an earlier one (34 an activation number, 35 a write
 // number): that function's position, and its first such number.
-#[derive(Drop)]
+#[derive(Clone, Copy)]
 pub enum Sealing {
     Good,
     Refused(Refusal),

@@ -1,6 +1,6 @@
 -- The Rust's own tests for 13, 14 and 24 to 26, where document 01 says them in other words.
 use mathlib.Core.List.{List, []}
-use mathlib.Core.Bool.{Bool, true, false, cond, ◌&&◌, ◌||◌, not}
+use mathlib.Core.Bool.{Bool, false, cond, ◌&&◌, ◌||◌, not}
 use Prim.Native.Nat.{ℕ}
 use lib.Dec.{eqb}
 use Rattle.cells.specs.Answers.{scan}

@@ -1,4 +1,6 @@
 // The two validators of one function's sites: `validate_activation_sites` and `validate_write_sites`.
+#![tactic(auto)]
+
 pub mod list;
 pub mod repeats;
 pub mod rules;
@@ -17,21 +19,21 @@ use cells::refusal::Checked;
 use cells::walk::Part;
 
 // A site: a presence byte and 4 bytes.
-#[derive(Drop)]
+#[derive(Clone, Copy)]
 pub enum Site {
     Absent,
     At(u32),
 }
 
 // Which of the two sites.
-#[derive(Drop)]
+#[derive(Clone, Copy)]
 pub enum Which {
     Activation,
     Write,
 }
 
 // What each cell of a part is judged by: 14 of the commands, 14 of the events, 22 and 23, 24 and 25, 26.
-#[derive(Drop)]
+#[derive(Clone, Copy)]
 pub enum Rule {
     StoreVarClaimed,
     BorrowKnown,

@@ -4,7 +4,7 @@ use mathlib.Core.Bool.{true}
 use Prim.Native.Nat.{ℕ, ◌-◌}
 use native.Mathlib.Omega.{arith}
 use lib.ListN.{length, get_or}
-use borrow.Author.Tests.{not-true, not_false}
+use borrow.Author.Tests.{not-true, not-false}
 use Rattle.numbers.specs.Numbers.{is_digit}
 use Rattle.numbers.proofs.Digits.{digit_bounds, Reading, reading_none, reading_not, reading_past, reading_next, reading_all, size-empty}
 use borrow.Author.Rules.{rules}
@@ -32,7 +32,7 @@ module _ (c : tie.Else2 invariant-loop decreases-loop) where
   byte = get_or c.before.before.before.before.before.before.before.args.digits.now c.before.before.before.before.loop.i 0
 
   digit : is_digit byte ≡ true
-  digit = sym c.before.is_digit.ensures ∙ not_false _ c.if2.false
+  digit = sym c.before.is_digit.ensures ∙ not-false _ c.if2.false
 
 mul-n : tie.Need-overflow-mul-n invariant-loop decreases-loop
 mul-n c = record { fits = omega (arith, c.before.before.before.before.loop.invariant.most) }

@@ -4,7 +4,7 @@ use mathlib.Core.Option.{none}
 use mathlib.Core.List.{List}
 use Prim.Native.Nat.{ℕ, ◌+◌, ◌-◌, ◌/◌, ◌<◌}
 use native.Mathlib.Omega.{arith}
-use borrow.Author.Tests.{not-true, not_false}
+use borrow.Author.Tests.{not-true, not-false}
 use lib.ListN.{length, take}
 use Rattle.cells.specs.Spans.{part}
 use Rattle.cells.proofs.Going.{Going, going_start, going_drop, going_end}
@@ -80,7 +80,7 @@ loop-again-2 c =
     let r = g.before in
     let l = turn r in
     let q = start l in
-    let goes = sym g.goes.ensures ∙ not_false _ c.if1.false in
+    let goes = sym g.goes.ensures ∙ not-false _ c.if1.false in
     (going_drop l.loop.inv.0 (inside r) (turn_drop (seen r) q.args.kind (list r) q.args.n q.pre.room (key_of l.loop.state) (inside r) l.loop.inv.1 (next_is r) goes), next_is r)
 
 returns : tie.Need-returns invariant-loop decreases-loop

@@ -3,7 +3,7 @@ use mathlib.Core.Path.{◌≡◌, sym, ◌∙◌}
 use mathlib.Core.Bool.{true}
 use Prim.Native.Nat.{◌≤◌}
 use native.Mathlib.Omega.{arith}
-use borrow.Author.Tests.{not-true, not_false}
+use borrow.Author.Tests.{not-true, not-false}
 use lib.ListN.{length, take}
 use lib.Seq.{length-take-le}
 use Rattle.cells.specs.Answers.{unless}
@@ -52,7 +52,7 @@ returns-4 : tie.Need-returns-4
 returns-4 c =
     let a = c.before.before.before.before.before.before.before.args in
     let k = c.before.before.before in
-    taken_fit Event a.position a.cell a.s.now (kind k.before) (fits k) _ _ (checked k) (sym c.before.operands-ok.ensures ∙ not_false _ c.if3.false) 15 (sym (event_size a.s.now))
+    taken_fit Event a.position a.cell a.s.now (kind k.before) (fits k) _ _ (checked k) (sym c.before.operands-ok.ensures ∙ not-false _ c.if3.false) 15 (sym (event_size a.s.now))
 
 pub check-event-spec : {M : Type 1} → statement M
 check-event-spec =

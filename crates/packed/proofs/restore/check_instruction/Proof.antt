@@ -3,7 +3,7 @@ use mathlib.Core.Path.{◌≡◌, ap, sym, ◌∙◌}
 use mathlib.Core.Bool.{true}
 use Prim.Native.Nat.{◌≤◌}
 use native.Mathlib.Omega.{arith}
-use borrow.Author.Tests.{not-true, not_false}
+use borrow.Author.Tests.{not-true, not-false}
 use lib.ListN.{length, take}
 use lib.Seq.{length-take-le}
 use Rattle.cells.specs.Answers.{unless}
@@ -64,7 +64,7 @@ returns-5 : tie.Need-returns-5
 returns-5 c =
     let a = c.before.before.before.before.before.before.before.before.before.before.args in
     let k = c.before.before in
-    taken_fit Code a.position a.cell a.s.now (command k.before.before) (fits k) _ _ (checked k) (sym c.before.operands-ok.ensures ∙ not_false _ c.if4.false) _ (size_is k.before.before)
+    taken_fit Code a.position a.cell a.s.now (command k.before.before) (fits k) _ _ (checked k) (sym c.before.operands-ok.ensures ∙ not-false _ c.if4.false) _ (size_is k.before.before)
 
 pub check-instruction-spec : {M : Type 1} → statement M
 check-instruction-spec =

@@ -1,0 +1,13 @@
+-- `quad::qtruth_or` meets its contract.
+use Rattle.std.proofs.Common.{◌∙◌}
+use Rattle.leaves.proofs.QuadLaws.{truth-or-told}
+use Rattle.leaves.proofs.quad.qtruth_or.Goals as goal
+
+pub returns : goal.returns
+returns c =
+    c.of_told.ensures
+    ∙ truth-or-told _ _ _ _ _ _
+    c.told_false.ensures
+    c.told_false-2.ensures
+    c.told_true.ensures
+    c.told_true-2.ensures

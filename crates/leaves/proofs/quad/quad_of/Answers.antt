@@ -1,0 +1,26 @@
+-- `quad::quad_of` meets its contract.
+use Rattle.std.proofs.Common.{ne_eqb}
+use Rattle.leaves.specs.Quads.{quad_of}
+use Rattle.leaves.proofs.quad.quad_of.Goals as goal
+
+pub returns-in-0 : goal.returns-in-0
+unfolding quad_of
+returns-in-0 c = simp c.in-0.is
+
+pub returns-in-1 : goal.returns-in-1
+unfolding quad_of
+returns-in-1 c = simp c.in-1.is
+
+pub returns-in-2 : goal.returns-in-2
+unfolding quad_of
+returns-in-2 c = simp c.in-2.is
+
+pub returns-in-3 : goal.returns-in-3
+unfolding quad_of
+returns-in-3 c = simp c.in-3.is
+
+pub returns-in_default : goal.returns-in_default
+unfolding quad_of
+returns-in_default c =
+    let not = c.in_default.in_default-own.rest in
+    simp (ne_eqb _ _ not.0.0.0.1, ne_eqb _ _ not.0.0.1, ne_eqb _ _ not.0.1, ne_eqb _ _ not.1)
