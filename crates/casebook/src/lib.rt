@@ -3,7 +3,7 @@
 ghost use Rattle.std.specs.Prelude.{◌≡◌};
 ghost use Rattle.casebook.specs.Counts.{counted};
 
-use libc::STDOUT_FILENO;
+use std::io;
 
 // One more if so.
 pub fn count(n: u64, more: bool) -> u64
@@ -17,14 +17,16 @@ pub fn count(n: u64, more: bool) -> u64
     n
 }
 
-pub fn text(t: &[u8]) {
-    io::write_all(STDOUT_FILENO, t);
+pub fn text(rt: &impl Print, t: &[u8]) -> io::Result<()> {
+    rt.write_all(t)
 }
 
-pub fn decimal(n: u64) {
-    io::print_decimal(STDOUT_FILENO, n);
+pub fn decimal(rt: &impl Print, n: u64) -> io::Result<()> {
+    print!(rt; "{n}")
 }
 
-pub fn hex(n: u64, digits: usize) {
-    io::print_hex(STDOUT_FILENO, n, digits);
+// In lower case, with zeros in front up to so many digits. No digits count as one, and more than 16 as 16.
+pub fn hex(rt: &impl Print, n: u64, digits: usize) -> io::Result<()> {
+    let width = digits.clamp(1, 16);
+    print!(rt; "{n:0width$x}")
 }

@@ -9,9 +9,9 @@ use Rattle.input.specs.declared.Step.TheVariants.{Upto, End, ReadFailed}
 abbrev pub StepWithin : ℕ → ℕ → ℕ → Step → Type 0
 StepWithin limit kept room (Upto n) = (min kept limit < n) × (n ≤ room)
 StepWithin limit kept room End = Unit {0}
-StepWithin limit kept room ReadFailed = Unit {0}
+StepWithin limit kept room (ReadFailed e) = Unit {0}
 
 -- the bytes of the whole input have those that are kept among them, and lie within the buffer
 abbrev pub Within : ℕ → ℕ → ℕ → Input → Type 0
 Within limit kept room (Bytes n) = (min kept limit ≤ n) × (n ≤ room)
-Within limit kept room InputFailed = Unit {0}
+Within limit kept room (InputFailed e) = Unit {0}

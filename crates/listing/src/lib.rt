@@ -1,5 +1,6 @@
 // The text of an answer, as the printing program writes it, into a buffer that the caller lends.
 #![tactic(auto)]
+
 ghost use Rattle.std.specs.Prelude.{◌≡◌, ◌++◌, ◌+◌, ◌*◌, ◌/◌, ◌%◌, ◌≤◌, ◌<◌, length, take};
 ghost use Rattle.cells.specs.Cells.{cells as «cells_of», over};
 ghost use Rattle.listing.specs.Decimal.{digit as «digit_of», decimal};
@@ -190,7 +191,7 @@ pub fn append(piece: &[u8], text: &mut [u8], at: usize) -> usize
     requires { at + length piece.now ≤ length text.old }
     ensures { TextWritten (take at text.old ++ piece.now) text.old text.new result }
 {
-    at + bytes::copy(piece, &mut text[at..])
+    at + cells::buffer::copy(piece, &mut text[at..])
 }
 
 fn hex_digit(d: usize) -> u8
