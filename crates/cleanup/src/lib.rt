@@ -1,5 +1,6 @@
 // Cleanup of one function (`StructuralCleanupPass`): four sweeps over the instructions, then the events of the sites that the second removed.
 #![tactic(auto)]
+
 pub mod events;
 pub mod marks;
 pub mod sweeps;
