@@ -1,18 +1,26 @@
 -- Whole texts: their lengths, and the answer for a buffer that is too short or long enough.
-use mathlib.Core.Path.{◌≡◌, ap}
-use mathlib.Core.List.{List, [], ◌∷◌}
-use Prim.Native.Nat.{ℕ, ◌+◌, ◌*◌, ◌/◌, ◌≤◌, ◌<◌}
+use mathlib.Core.Path.{◌≡◌, ◌∙◌, ap}
+use mathlib.Core.List.{List, [], ◌∷◌, ◌++◌}
+use Prim.Native.Nat.{ℕ, ◌+◌, ◌*◌, ◌/◌, ◌%◌, ◌≤◌, ◌<◌}
 use native.Mathlib.Omega.{arith}
 use borrow.Author.Tests.{le-leb, lt-leb}
-use lib.ListN.{length, length-append}
+use lib.ListN.{length, set, take, length-append}
 use Rattle.cells.specs.Cells.{cells}
 use Rattle.cells.proofs.Cells.{length-cells, full_cells}
-use Rattle.listing.specs.Decimal.{decimal}
+use Rattle.listing.specs.Decimal.{digit, decimal}
 use Rattle.listing.specs.Text.{line_feed, cell_lines, field, rewrites_line, rewritten_text, refused_text}
 use Rattle.listing.specs.Promises.{listed, listed_over, Listing, TextWritten}
 use Rattle.listing.specs.declared.Listed.TheVariants.{Text, TooShort}
-use Rattle.listing.proofs.Numerals.{length-decimal}
+use Rattle.listing.proofs.Numerals.{decimal-one, length-one, length-decimal}
+use Rattle.listing.proofs.Pieces.{written_start, written_byte}
 use Rattle.listing.proofs.Lines.{length_lines}
+
+-- the numeral of a number below 10, written at a position
+pub written_digit : (s : List ℕ) (at n d : ℕ) → n < 10 → d ≡ digit (n % 10) → at + length (decimal n) ≤ length s → TextWritten (take at s ++ decimal n) s (set s at d) (at + 1)
+written_digit s at n d h e l =
+    let m : n % 10 ≡ n = omega arith in
+    let f : d ≡ digit n = e ∙ ap digit m in
+    rw (decimal-one n h, f) (written_byte (written_start s at (omega arith)) (digit n) (omega (arith, length-one n h)))
 
 pub length-field : (n end : ℕ) → length (field n end) ≤ 21
 length-field n end = omega (arith, length-append (decimal n) (end ∷ []), length-decimal n)

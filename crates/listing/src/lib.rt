@@ -138,6 +138,7 @@ fn put_line(cell: &[u8], text: &mut [u8], at: usize) -> usize
 
 // The parts of every text.
 
+#[tactic(auto, using(crate::proofs::Whole::written_digit))]
 pub fn put_decimal(n: usize, text: &mut [u8], at: usize) -> usize
     requires { at + length (decimal n) ≤ length text.old }
     ensures { TextWritten (take at text.old ++ decimal n) text.old text.new result }

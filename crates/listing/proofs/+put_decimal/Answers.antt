@@ -1,22 +1,14 @@
 -- `listing::put_decimal` meets its contract.
-use mathlib.Core.Path.{◌≡◌, ◌∙◌, ap}
 use Prim.Native.Nat.{◌/◌, ◌%◌}
 use native.Mathlib.Omega.{arith}
 use lib.ListN.{take}
 use Rattle.listing.specs.Decimal.{digit, decimal}
-use Rattle.listing.proofs.Numerals.{decimal-one, decimal-more, length-one, length_more}
-use Rattle.listing.proofs.Pieces.{end_at_lem, written_start, written_byte, written_behind}
+use Rattle.listing.proofs.Numerals.{decimal-more, length-one, length_more}
+use Rattle.listing.proofs.Pieces.{end_at_lem, written_behind}
 use Rattle.listing.proofs.+put_decimal.Goals as goal
 
 pub bounds-text-at : goal.bounds-text-at
 bounds-text-at t c = omega (arith, length-one c.args.n (omega arith))
-
-pub returns-then-n-lt10 : goal.returns-then-n-lt10
-returns-then-n-lt10 t c =
-    let a = c.args in
-    let m : a.n % 10 ≡ a.n = omega arith in
-    let e : c.digit.result ≡ digit a.n = c.digit.ensures ∙ ap digit m in
-    rw (decimal-one a.n (omega arith), e) (written_byte (written_start a.text.now a.at (omega arith)) (digit a.n) (omega (arith, length-one a.n (omega arith))))
 
 pub put_decimal-k-requires : goal.put_decimal-k-requires
 put_decimal-k-requires t c =
