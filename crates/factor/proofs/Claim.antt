@@ -1,6 +1,6 @@
 -- What the search means, of both products.
 use mathlib.Core.Path.{◌≡◌, sym, ◌∙◌, ap}
-use lib.IntN.{ℤ, ◌*ℤ◌, *ℤ_comm}
+use lib.IntN.{ℤ, *ℤ_comm}
 use lib.Signed.{quot_z}
 use Rattle.leaves.specs.Signed.{wrap, mul_i32, checked_as}
 use Rattle.leaves.specs.Fixed.{fx_scale, mul_fx}

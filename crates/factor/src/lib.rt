@@ -1,6 +1,7 @@
 // Which factor gives this score? Of all i32 whose product with a factor is a wanted value, the one nearest zero, and of two equally near the
 // positive one. All work is done at 64 bits, on sizes and on two's complement bits, so that nothing overflows.
 #![tactic(auto)]
+
 mod modular;
 pub mod size;
 

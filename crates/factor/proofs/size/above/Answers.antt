@@ -1,0 +1,14 @@
+-- `factor::size::above` meets its contract.
+use mathlib.Core.Path.{◌∙◌, ap}
+use native.Mathlib.Omega.{arith}
+use mir.Syntax.{w32}
+use mir.Facts.{to_z-of_z}
+use Rattle.factor.specs.declared.Factor.TheVariants.{Found}
+use Rattle.factor.proofs.Sizes.{above-found, above_nothing}
+use Rattle.factor.proofs.size.above.Goals as goal
+
+pub returns-then-y-ge-LEAST : goal.returns-then-y-ge-LEAST
+returns-then-y-ge-LEAST c = above_nothing c.args.y (omega arith)
+
+pub returns : goal.returns
+returns c = ap Found (to_z-of_z {w = w32} (record { sfits = c.of_bits.type_inv }) ∙ c.of_bits.ensures) ∙ above-found c.args.y (omega arith)
