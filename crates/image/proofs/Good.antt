@@ -3,18 +3,16 @@ use mathlib.Core.Path.{◌≡◌, refl, ap, sym, ◌∙◌}
 use mathlib.Core.Logic.{◌↔◌}
 use mathlib.Core.List.{List, [], ◌∷◌, ◌++◌}
 use mathlib.Core.Bool.{true}
-use Prim.Native.Nat.{ℕ, zero, suc, ◌+◌, ◌%◌, ◌≤◌}
+use Prim.Native.Nat.{ℕ, zero, suc, ◌+◌, ◌≤◌}
 use native.Mathlib.Nat.{le_refl, not-suc-le-zero, le_of_suc-le-suc}
 use native.Mathlib.Omega.{arith}
-use borrow.Author.Tests.{le-leb}
-use lib.Dec.{leb}
-use lib.ListN.{length, take, drop, length-take, length-drop}
+use lib.ListN.{length, drop, length-take, length-drop}
 use Rattle.cells.specs.Answers.{or_else}
 use Rattle.cells.specs.Bytes.{byte}
 use Rattle.cells.specs.Cells.{Cell, cells}
 use Rattle.cells.specs.Lists.{All}
 use Rattle.cells.specs.Table.{event_row}
-use Rattle.cells.specs.Check.{max_image, code_count, event_count, is_command, is_event_kind, row_ok, head_check, instruction_check}
+use Rattle.cells.specs.Check.{code_count, event_count, is_command, is_event_kind, row_ok, head_check}
 use Rattle.cells.specs.Functions.{Function, Counted, there, function_at, behind, functions}
 use Rattle.cells.specs.Refusals.{numbers_in}
 use Rattle.cells.specs.View.{view, Registers}

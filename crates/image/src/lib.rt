@@ -1,5 +1,6 @@
 // The image check and the site check. Neither has a condition on the image's bytes, and neither writes.
 #![tactic(auto)]
+
 pub mod check;
 
 ghost use Rattle.std.specs.Prelude.{◌≡◌};
