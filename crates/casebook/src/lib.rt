@@ -1,9 +1,11 @@
-// What the programs `cases_*` share: how they count, and how they write, of which no contract can say anything.
+// What the programs `cases_*` share: how they count, how they read a file, and how they write, of which no contract can say anything.
 #![tactic(auto)]
-ghost use Rattle.std.specs.Prelude.{◌≡◌};
+ghost use Rattle.std.specs.Prelude.{◌≡◌, ◌≤◌, length, take};
+ghost use Rattle.std.specs.Io.KnownBytes.{Consumes};
 ghost use Rattle.casebook.specs.Counts.{counted};
 
 use std::io;
+use std::io::Read;
 
 // One more if so.
 pub fn count(n: u64, more: bool) -> u64
@@ -15,6 +17,23 @@ pub fn count(n: u64, more: bool) -> u64
         }
     }
     n
+}
+
+// Reads until the buffer is full, the file ends or a read fails; how many bytes were put at the start of the buffer. Of a file whose bytes are known these
+// are the next ones.
+pub fn read_full<R: Read>(file: &mut R, buffer: &mut [u8]) -> usize
+    ensures within { result ≤ length buffer.new }
+    ensures bytes { Consumes (R.remaining file.old) (R.remaining file.new) (take result buffer.new) }
+{
+    let mut done = 0;
+    while done < buffer.len() {
+        match file.read(&mut buffer[done..]) {
+            Ok(0) => break,
+            Ok(n) => done += n,
+            Err(_) => break,
+        }
+    }
+    done
 }
 
 pub fn text(rt: &impl Print, t: &[u8]) -> io::Result<()> {
