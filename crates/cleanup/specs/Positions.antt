@@ -1,15 +1,19 @@
 -- Inner: the sweeps over the positions of a function's instruction cells, as the code has them.
-use Rattle.std.specs.Prelude.{◌≡◌, List, ℕ, ◌/◌, ◌≤◌, ◌<◌, length, take}
+use Rattle.std.specs.Prelude.{◌≡◌, List, [], ◌∷◌, ℕ, zero, suc, ◌+◌, ◌/◌, ◌≤◌, ◌<◌, length, take}
 use Rattle.cells.specs.Cells.{cell_at, over}
 use Rattle.cells.specs.Ins.{Ins}
 use Rattle.cells.specs.Lists.{All}
 use Rattle.cells.specs.View.{view}
-pub use Rattle.cleanup.specs.Sweeps.{up_from}
 use Rattle.cleanup.specs.Sweeps.{remove_duplicate_consecutive_labels, remove_unreachable_until_label, remove_noop_jumps, remove_redundant_consecutive_loads}
 
 -- what the cell at a position is
 abbrev pub see_at : List ℕ → ℕ → Ins
 see_at s k = view (cell_at s k)
+
+-- n positions from k on
+abbrev pub up_from : ℕ → ℕ → List ℕ
+up_from k zero = []
+up_from k (suc n) = k ∷ up_from (k + 1) n
 
 abbrev pub AllBelow : ℕ → List ℕ → Type 0
 AllBelow m ks = All (λ (k : ℕ). k < m) ks

@@ -1,14 +1,9 @@
 -- Promise: cleanup's four sweeps, each from left to right (document 01, module 4), over cells of any form: `see` says what a cell is. The code has them
--- at positions, an image at 16 bytes, the runs at `Ins` itself, and the fates of a function's cells at positions too.
-use Rattle.std.specs.Prelude.{Bool, false, cond, ◌&&◌, not, List, [], ◌∷◌, ℕ, zero, suc, ◌+◌}
+-- at positions, an image at 16 bytes, and the runs at `Ins` itself.
+use Rattle.std.specs.Prelude.{Bool, false, cond, ◌&&◌, not, List, [], ◌∷◌, ℕ}
 use Rattle.std.proofs.Math.Option.{Option, none}
 use Rattle.cells.specs.Ins.{Ins, label_of, alike}
 use Rattle.cleanup.specs.Marks.{terminal, is_there, jump_of, removable_load}
-
--- n positions from k on
-abbrev pub up_from : ℕ → ℕ → List ℕ
-up_from k zero = []
-up_from k (suc n) = k ∷ up_from (k + 1) n
 
 -- a sweep: a cell goes by a state, by what it is and by the cells behind it; each cell that stays sets the state
 module _ {C S : Type 0} (goes : S → C → List C → Bool) (after : C → S) where

@@ -16,8 +16,9 @@ use Rattle.cells.specs.View.{view, bool_number}
 use Rattle.machine.specs.Values.{written_of}
 use Rattle.machine.specs.Evaluate.{evaluate}
 use Rattle.cleanup.specs.Marks.{terminal}
-use Rattle.cleanup.specs.Sweeps.{up_from, remove_duplicate_consecutive_labels, remove_unreachable_until_label, remove_noop_jumps, remove_redundant_consecutive_loads, removed}
+use Rattle.cleanup.specs.Sweeps.{remove_duplicate_consecutive_labels, remove_unreachable_until_label, remove_noop_jumps, remove_redundant_consecutive_loads, removed}
 use Rattle.cleanup.specs.Cleanup.{stays}
+use Rattle.cleanup.specs.Positions.{up_from}
 use Rattle.crystalfold.specs.Rules.{default_rules, known_of}
 use Rattle.crystalfold.specs.Fold.{Table, unknown, known_after}
 use Rattle.fates.specs.declared.Fate.{Fate}
