@@ -1,5 +1,6 @@
 // CrystalFold: the constant fold over instruction cells, in place. Heads and events among them are barriers, so that it may go over a whole image.
 #![tactic(auto)]
+
 ghost use Rattle.std.specs.Prelude.{◌≡◌, ◌/◌, ◌<◌, length};
 ghost use Rattle.crystalfold.specs.Rules.{rules_of};
 ghost use Rattle.crystalfold.specs.InPlace.{Foldable, Folded, Computed, Listed};
