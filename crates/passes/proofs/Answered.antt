@@ -4,7 +4,6 @@ use mathlib.Core.List.{List}
 use Prim.Native.Nat.{ℕ, ◌*◌, ◌≤◌}
 use native.Mathlib.Omega.{arith}
 use lib.ListN.{length}
-use lib.Dec.{ltb}
 use Rattle.cells.specs.Check.{max_image}
 use Rattle.cells.specs.Cells.{cells}
 use Rattle.cells.specs.Functions.{functions}
@@ -16,7 +15,6 @@ use Rattle.image.proofs.Good.{site-good}
 use Rattle.passes.specs.Passes.{pass_all, count_all, pass_bytes, pass_count, pass_check, answer_as, output_as, pass_answer, pass_output, report}
 use Rattle.passes.specs.Steps.{AllWritten}
 use Rattle.passes.specs.declared.Pass.{Pass}
-use Rattle.passes.specs.declared.Rewrite.{Rewrite}
 use Rattle.passes.specs.declared.Rewrite.TheVariants.{Written, Refused}
 use Rattle.passes.specs.declared.Total.{Total}
 use Rattle.passes.proofs.Done.{check_good, bytes-length, bytes_shorter}

@@ -9,7 +9,7 @@ use borrow.Author.Tests.{le-leb, leb-true}
 use lib.Dec.{leb}
 use lib.ListN.{length, take, length-append}
 use Rattle.cells.specs.Answers.{or_else, unless}
-use Rattle.cells.specs.Cells.{cells, flat, over}
+use Rattle.cells.specs.Cells.{cells, flat}
 use Rattle.cells.specs.Functions.{Function, functions, cells_of, cells_of_all}
 use Rattle.cells.specs.WellFormed.{WellFormed}
 use Rattle.cells.specs.declared.refusal.Refusal.TheVariants.{Length, OutputTooShort}
@@ -49,7 +49,6 @@ use Rattle.passes.specs.Promises.{reply_of, is_written, length_written, Each, Pa
 use Rattle.passes.specs.declared.Pass.{Pass}
 use Rattle.passes.specs.declared.Pass.TheVariants.{Cleanup, CrystalFold, Both}
 use Rattle.passes.specs.declared.Rewrite.{Rewrite}
-use Rattle.passes.specs.declared.Rewrite.TheVariants.{Written, Refused}
 
 -- ---- a pass goes function by function, and keeps each well-formed, no longer, and good in its sites
 

@@ -25,9 +25,9 @@ fn copy(head: &[u8], code: &[u8], events: &[u8], out: &mut [u8]) -> FunctionRepo
     ensures { Holds (function_of head.now code.now events.now) 0 out.old out.new result }
 {
     let a = CELL + code.len();
-    bytes::copy(head, out);
-    bytes::copy(code, &mut out[CELL..]);
-    bytes::copy(events, &mut out[a..]);
+    cells::buffer::copy(head, out);
+    cells::buffer::copy(code, &mut out[CELL..]);
+    cells::buffer::copy(events, &mut out[a..]);
     FunctionReport {
         instructions: code.len() / CELL,
         events: events.len() / CELL,

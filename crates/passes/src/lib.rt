@@ -1,6 +1,7 @@
 // The rewriting operations on an image: cleanup, CrystalFold, and both, by the Rust's rules (`run_default_opt_passes`) or by the fuller ones.
 // Nothing is written before all checks have passed.
 #![tactic(auto)]
+
 mod function;
 
 ghost use Rattle.std.specs.Prelude.{◌≡◌, ◌≤◌, length};
@@ -172,7 +173,7 @@ fn copy_functions(image: &[u8], out: &mut [u8]) -> Total
     requires { (site_answer image.now ≡ Good) × (length image.now ≤ length out.old) }
     ensures { AllWritten (functions (cells image.now)) 0 out.old out.new result }
 {
-    bytes::copy(image, out);
+    cells::buffer::copy(image, out);
     Total {
         cells: image.len() / CELL,
         rewrites: 0,
