@@ -22,7 +22,7 @@ use Rattle.passes.specs.declared.Total.{Total}
 use Rattle.passes.proofs.Done.{check_good, bytes-length, bytes_shorter, pass_few}
 use Rattle.rest.specs.Rounds.{rest_bytes, rest_count, rest_answer, rest_output}
 use Rattle.rest.specs.Promises.{RestDone}
-use Rattle.rest.proofs.Rounds.{rounds_pass, rest_bytes, rest_count}
+use Rattle.rest.proofs.Rounds.{rounds_pass, rest_bytes_lem, rest_count_lem}
 use Rattle.rest.proofs.Done.{rest_done}
 
 -- the memory is that of one image
@@ -112,8 +112,8 @@ module _ (k : RuleSet) (s before : List ℕ) {a : Checked} (e : a ≡ pass_check
         unfolding rest_answer rest_output s₁ pass_bytes
         rest-written =
             let g : pass_check s (length before) ≡ Good = sym e ∙ f in
-            let b : rest_bytes k s ≡ pass_bytes (Both k) s₁ = rest_bytes k s passes in
-            let c : rest_count k s ≡ t.rewrites + u.rewrites = omega (arith, rest_count k s passes, first_count, second_count) in
+            let b : rest_bytes k s ≡ pass_bytes (Both k) s₁ = rest_bytes_lem k s passes in
+            let c : rest_count k s ≡ t.rewrites + u.rewrites = omega (arith, rest_count_lem k s passes, first_count, second_count) in
             rest_done k s before after (Written (16 * u.cells) (report (t.rewrites + u.rewrites)))
             (ap₂ (λ (n m : ℕ). Written n (report m)) (second_size ∙ ap length (sym b)) (sym c) ∙ sym (ap (λ (x : Checked). answer_as x (length (rest_bytes k s)) (rest_count k s)) g))
             (second_is.bytes ∙ ap (λ (y : List ℕ). over y before) (sym b) ∙ sym (ap (λ (x : Checked). output_as x (rest_bytes k s) before) g))

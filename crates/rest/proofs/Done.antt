@@ -32,7 +32,7 @@ use Rattle.passes.proofs.Done.{check_good, bytes_shorter}
 use Rattle.rest.specs.Rounds.{image_after, rest_bytes, rest_count, rest_answer, rest_output}
 use Rattle.rest.specs.Promises.{RoundDone, AtRest, Rested, RestDone, EitherRests}
 use Rattle.rest.proofs.Still.{all}
-use Rattle.rest.proofs.Rounds.{rounds_pass, rounds_preserved, twice_functions, third_zero, third_same, within_three, rest_bytes}
+use Rattle.rest.proofs.Rounds.{rounds_pass, rounds_preserved, twice_functions, third_zero, third_same, within_three, rest_bytes_lem}
 
 module _ (k : RuleSet) where
   -- ---- each function
@@ -99,7 +99,7 @@ module _ (k : RuleSet) where
   facts s before Good e =
       let g = (check_good s (length before)).0 e in
       let s₁ : List ℕ = pass_bytes (Both k) s in
-      let b : rest_bytes k s ≡ pass_bytes (Both k) s₁ = rest_bytes k s g.0 in
+      let b : rest_bytes k s ≡ pass_bytes (Both k) s₁ = rest_bytes_lem k s g.0 in
       record {
         accepted = ((λ f. g), (λ h. refl));
         refused = λ x. ((λ f. absurd (refused_apart (length (rest_bytes k s)) (rest_count k s) x f)), (λ f. absurd (refused_apart (length s₁) (pass_count (Both k) s) x (rw e at f))));

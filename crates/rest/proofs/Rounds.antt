@@ -152,10 +152,10 @@ module _ (k : RuleSet) where
         not_apart m n a b = omega (arith, a, b)
 
     -- two rounds and their sum are the rewrite until it rests
-    pub rest_bytes : rest_bytes k s ≡ once (once s)
+    pub rest_bytes_lem : rest_bytes k s ≡ once (once s)
     unfolding rest_bytes
-    rest_bytes = ends.image
+    rest_bytes_lem = ends.image
 
-    pub rest_count : rest_count k s ≡ count s + count (once s)
+    pub rest_count_lem : rest_count k s ≡ count s + count (once s)
     unfolding rest_count
-    rest_count = ends.sum
+    rest_count_lem = ends.sum

@@ -1,5 +1,6 @@
 // The whole rewrite, repeated until it rests (document 02, W11): until one round reports 0.
 #![tactic(auto)]
+
 ghost use Rattle.std.specs.Prelude.{◌≡◌, replicate};
 ghost use Rattle.cells.specs.Check.{max_image};
 ghost use Rattle.crystalfold.specs.declared.rules.RuleSet.TheVariants.{Default};
