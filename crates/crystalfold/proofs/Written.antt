@@ -1,6 +1,7 @@
 -- The list of registers written since the last barrier: with their entries `Unknown`, the table is as it was at the barrier.
 use mathlib.Core.Path.{◌≡◌, refl, sym, ap, subst, ◌∙◌}
 use mathlib.Core.Bool.{Bool, true, false, cond}
+use mathlib.Core.Logic.{◌⊎◌, inl, inr}
 use mathlib.Core.List.{List, [], ◌∷◌}
 use Prim.Native.Nat.{ℕ, zero, suc, ◌+◌, ◌-◌, ◌≤◌, ◌<◌}
 use native.Mathlib.Omega.{arith}
@@ -132,6 +133,12 @@ undoing_none {places} {list} {held} few u size = record { few = few; undone = ag
 pub undoing_same : {places : ℕ} {list : List ℕ} {n n' : ℕ} {held held' : List ConstVal} → held' ≡ held → n' ≡ n → Undoing places list n held → Undoing places list n' held'
 undoing_same {places} {list} {n} {n'} {held} {held'} e e' u =
     subst (λ (h : List ConstVal). Undoing places list n' h) (sym e) (subst (λ (m : ℕ). Undoing places list m held) (sym e') u)
+
+-- a barrier begins so: with the whole table made anew behind a full list, else with the table as it is
+pub undoing_begun : {places : ℕ} {list : List ℕ} {n n' : ℕ} {held held' : List ConstVal} → Since places list n held → 0 < places
+    → ((all_unknown held' ≡ true) × (registers ≤ length held') × (n' ≡ 0)) ⊎ ((n ≡ places → ⊥) × (held' ≡ held) × (n' ≡ n)) → Undoing places list n' held'
+undoing_begun s few (inl k) = undoing_same refl k.2 (undoing_none few k.0 k.1)
+undoing_begun s few (inr k) = undoing_same k.1 k.2 (undoing_listed s k.0)
 
 last : (list : List ℕ) (held : List ConstVal) (n : ℕ) → Undone n list held → 0 < n → (get_or list (n - 1) 0 < registers) × Undone (n - 1) list (set held (get_or list (n - 1) 0) Unknown)
 last list held zero u h = absurd (omega arith)

@@ -10,10 +10,10 @@ use Rattle.crystalfold.specs.declared.command.Command.TheVariants.{Compute}
 use Rattle.crystalfold.proofs.Effects.{Within}
 use Rattle.crystalfold.proofs.FoldCounts.{at_most_one}
 use Rattle.crystalfold.proofs.Turn.{Done, bound, turn_barrier, turn_load, turn_forget, turn_other, turn_compute, start, ended}
-use Rattle.crystalfold.proofs.Written.{Since, since_none, since_forget, since_write, undoing_listed, undoing_none, undoing_same, undoing_register, undoing_less, undoing_ended, undoing_since}
+use Rattle.crystalfold.proofs.Written.{Since, since_none, since_forget, since_write, undoing_begun, undoing_register, undoing_less, undoing_ended, undoing_since}
 use Rattle.crystalfold.proofs.fold_constants_and_identities.Invariants.{places}
 use Rattle.crystalfold.proofs.fold_constants_and_identities.Goals as goal
-use Rattle.crystalfold.proofs.fold_constants_and_identities.Goals.{After-decode_at, In-Compute, In-loop-listed, then-listed-eq-LISTED, else-listed-eq-LISTED}
+use Rattle.crystalfold.proofs.fold_constants_and_identities.Goals.{After-decode_at, In-Compute, In-loop-listed}
 
 -- at an arm: the turn's state, that cells are left, and that the command's registers are in the table
 module _ (d : After-decode_at) where
@@ -35,11 +35,7 @@ loop-i-init c = (start c.requires refl, since_none refl refl (search rules))
 
 -- Barrier
 pub loop-listed-init : goal.loop-listed-init
-loop-listed-init c =
-    elim c.if-listed-eq-LISTED.branch [
-      | then-listed-eq-LISTED k ↦ undoing_same k.known-is k.listed-is (undoing_none (search rules) refl (search rules))
-      | else-listed-eq-LISTED k ↦ undoing_same k.known-is k.listed-is (undoing_listed (since (goal.at.loop-listed-init c).After-decode_at) k.if-listed-eq-LISTED.false)
-    ]
+loop-listed-init c = undoing_begun (since (goal.at.loop-listed-init c).After-decode_at) (search rules) (grind arith)
 
 -- a turn of its loop: there is a last one listed
 module _ (t : In-loop-listed) where
