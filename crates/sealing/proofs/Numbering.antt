@@ -17,7 +17,6 @@ use Rattle.sites.specs.declared.Which.{Which}
 use Rattle.sites.proofs.Counted.{sites_any}
 use Rattle.sealing.specs.Sealing.{numbers_on, stands_in, functions_with, repeated_numbers, repeated_or, numbering_from, numbering_answer}
 use Rattle.sealing.specs.Promises.{InOneFunction, FirstRepeat}
-use Rattle.sealing.specs.declared.Sealing.{Sealing}
 use Rattle.sealing.specs.declared.Sealing.TheVariants.{Good, Repeated}
 use Rattle.sealing.proofs.Numbers.{by_list, FirstThat, only-first, first-only, only_none, none_only}
 

@@ -1,6 +1,7 @@
 // The sealing check (document 02, W13): the site check, then one numbering for a whole image: an activation number stands in one function only, and
 // likewise a write number. It has no condition on the image's bytes, and writes nothing.
 #![tactic(auto)]
+
 ghost use Rattle.std.specs.Prelude.{◌≡◌, ◌/◌, ◌≤◌, length, take};
 ghost use Rattle.cells.specs.Cells.{cells, over};
 ghost use Rattle.cells.specs.Check.{max_image};
