@@ -18,7 +18,7 @@ use Rattle.cells.proofs.Functions.{functions_nil, functions_cons, cells_of_funct
 use Rattle.cells.proofs.Lists.{all_append, all_both, all_each, all_parts}
 use Rattle.image.specs.Image.{GoodImage}
 use Rattle.image.proofs.Again.{image_formed, formed_image}
-use Rattle.packed.specs.Form.{Role, Code, Event}
+use Rattle.packed.specs.Form.{Role, Code, Event, due_behind}
 use Rattle.packed.proofs.Walk.{Right, Fine}
 
 -- ---- a run of cells of one role
@@ -96,7 +96,7 @@ fine_functions (suc k) (h ∷ cs) l f =
 
 pub fine_full : (due : List Role) (cs : List Cell) → Fine due cs → Full cs
 fine_full due [] f = tt
-fine_full due (c ∷ cs) f = (f.0.0, fine_full _ cs f.1)
+fine_full due (c ∷ cs) f = (f.0.0, fine_full (due_behind due c) cs f.1)
 
 pub fine_image : (cs : List Cell) → Fine [] cs → length cs ≤ 4096 → GoodImage (flat cs)
 fine_image cs f l =

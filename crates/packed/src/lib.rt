@@ -1,6 +1,7 @@
 // The packed form: each cell keeps only the bytes that its command, its head or its event defines. Neither operation has a condition on the
 // bytes it is given, neither checks sites, and nothing is written before it is known that all of it is good and fits.
 #![tactic(auto)]
+
 pub mod form;
 mod keep;
 mod put;

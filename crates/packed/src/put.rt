@@ -2,6 +2,7 @@
 ghost use Rattle.std.specs.Prelude.{◌≡◌, ◌+◌, ◌≤◌, length, take};
 ghost use Rattle.cells.specs.Cells.{over};
 
+use cells::buffer;
 use cells::read::CELL;
 
 // The first k bytes of s, over the start of an output.
@@ -14,7 +15,7 @@ pub fn put_first(s: &[u8], k: usize, out: &mut [u8])
     } else if 4 <= k {
         put_ends(s, k, 4, out);
     } else {
-        bytes::copy(&s[..k], out);
+        buffer::copy(&s[..k], out);
     }
 }
 
@@ -26,10 +27,10 @@ fn put_ends(s: &[u8], k: usize, w: usize, out: &mut [u8])
     let mut first = [0u8; 8];
     let mut last = [0u8; 8];
     let at = k - w;
-    bytes::copy(&s[..w], &mut first);
-    bytes::copy(&s[at..k], &mut last);
-    bytes::copy(&first[..w], out);
-    bytes::copy(&last[..w], &mut out[at..]);
+    buffer::copy(&s[..w], &mut first);
+    buffer::copy(&s[at..k], &mut last);
+    buffer::copy(&first[..w], out);
+    buffer::copy(&last[..w], &mut out[at..]);
 }
 
 // The first 16 bytes of s, over the start of an output.
@@ -38,6 +39,6 @@ pub fn put_cell(s: &[u8], out: &mut [u8])
     ensures { out.new ≡ over (take 16 s.now) out.old }
 {
     let mut whole = [0u8; CELL];
-    bytes::copy(&s[..CELL], &mut whole);
-    bytes::copy(&whole, out);
+    buffer::copy(&s[..CELL], &mut whole);
+    buffer::copy(&whole, out);
 }

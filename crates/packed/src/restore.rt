@@ -10,7 +10,7 @@ use crate::{Packing, form, put};
 use cells::check::{LAST_COMMAND, LAST_KIND, MAX_IMAGE};
 use cells::read::CELL;
 use cells::refusal::{Checked, Refusal};
-use cells::{check, read, table};
+use cells::{buffer, check, read, table};
 
 // Cells of the longest image.
 const MAX_CELLS: usize = MAX_IMAGE / CELL;
@@ -227,7 +227,7 @@ fn put_restored(s: &[u8], k: usize, out: &mut [u8])
     } else {
         put::put_cell(s, out);
         let zeros = [0u8; CELL];
-        bytes::copy(&zeros, &mut out[k..]);
+        buffer::copy(&zeros, &mut out[k..]);
     }
 }
 
@@ -237,6 +237,6 @@ fn put_exactly(s: &[u8], k: usize, out: &mut [u8])
     ensures { out.new ≡ over (padded (take k s.now)) out.old }
 {
     let zeros = [0u8; CELL];
-    bytes::copy(&zeros, out);
+    buffer::copy(&zeros, out);
     put::put_first(s, k, out);
 }
