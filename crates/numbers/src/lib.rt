@@ -1,5 +1,6 @@
 // An i32 in decimal: read from a word, and written.
 #![tactic(auto)]
+
 ghost use Rattle.std.specs.Prelude.{◌≡◌, ◌++◌, ◌∷◌, [], ◌≤◌, length};
 ghost use Rattle.listing.specs.Promises.{TextWritten};
 ghost use Rattle.listing.specs.Text.{line_feed};

@@ -1,6 +1,7 @@
 // Pages for the rule meeting: an accepted image laid out in lines, over the start of a buffer that the caller lends. Nothing is written before
 // it is known that all of it fits.
 #![tactic(auto)]
+
 mod line;
 mod names;
 
