@@ -4,6 +4,7 @@ ghost use Rattle.std.specs.Prelude.{◌≡◌, ◌↔◌, true, false, ◌+◌, 
 ghost use Rattle.cases_leaves.specs.Rows.{kind_of, bits_in, digit_of, number_in, is_separated, is_text, result_in, row_in, Holds};
 
 use crate::leaf::{Answer, compute};
+use std::io;
 
 // A number in hexadecimal.
 #[derive(Clone, Copy)]
@@ -23,19 +24,19 @@ pub enum Row {
 const RESULT: usize = 34;
 
 // Whether the leaf gives what the row says. If not, with a line that names the vector; and if the leaf declines, with its reason.
-pub fn holds(group: &[u8], leaf: u64, line: &[u8]) -> bool
+pub fn holds(rt: &impl Print, group: &[u8], leaf: u64, line: &[u8]) -> bool
     ensures { (result ≡ true) ↔ Holds leaf line.now }
 {
     let row = read(line);
     let Row::Vector(a, b, expected) = row else {
-        return malformed(group, line);
+        return malformed(rt, group, line);
     };
     let got = compute(leaf, a, b);
     let held = same(got, expected);
     if held {
-        tell(a, b, got);
+        let _ = tell(rt, a, b, got);
     } else {
-        wrong(group, a, b, expected, got);
+        let _ = wrong(rt, group, a, b, expected, got);
     }
     held
 }
@@ -177,57 +178,68 @@ fn bits_of(a: Answer) -> u64
     }
 }
 
-fn malformed(group: &[u8], line: &[u8]) -> bool
+fn malformed(rt: &impl Print, group: &[u8], line: &[u8]) -> bool
     ensures { result ≡ false }
 {
-    casebook::text(b"wrong: a row is malformed in ");
-    casebook::text(group);
-    casebook::text(line);
+    let _ = not_read(rt, group, line);
     false
 }
 
+fn not_read(rt: &impl Print, group: &[u8], line: &[u8]) -> io::Result<()> {
+    casebook::text(rt, b"wrong: a row is malformed in ")?;
+    casebook::text(rt, group)?;
+    casebook::text(rt, line)
+}
+
 // Writes a line for a row that is declined: why.
-fn tell(a: u64, b: u64, got: Answer) {
+fn tell(rt: &impl Print, a: u64, b: u64, got: Answer) -> io::Result<()> {
     match got {
-        Answer::Value(_) => {}
-        Answer::Absent => {}
-        Answer::DivisorZero => declined(a, b, got),
-        Answer::OutOfRange => declined(a, b, got),
-        Answer::NoLeaf => {}
+        Answer::Value(_) => Ok(()),
+        Answer::Absent => Ok(()),
+        Answer::DivisorZero => declined(rt, a, b, got),
+        Answer::OutOfRange => declined(rt, a, b, got),
+        Answer::NoLeaf => Ok(()),
     }
 }
 
-fn declined(a: u64, b: u64, got: Answer) {
-    casebook::text(b"declined: ");
-    operands(a, b);
-    casebook::text(b" ");
-    show(got);
-    casebook::text(b"\n");
+fn declined(rt: &impl Print, a: u64, b: u64, got: Answer) -> io::Result<()> {
+    casebook::text(rt, b"declined: ")?;
+    operands(rt, a, b)?;
+    casebook::text(rt, b" ")?;
+    show(rt, got)?;
+    casebook::text(rt, b"\n")
 }
 
-fn wrong(group: &[u8], a: u64, b: u64, expected: Answer, got: Answer) {
-    casebook::text(b"wrong: ");
-    operands(a, b);
-    casebook::text(b" expected ");
-    show(expected);
-    casebook::text(b" got ");
-    show(got);
-    casebook::text(b" in ");
-    casebook::text(group);
+fn wrong(
+    rt: &impl Print,
+    group: &[u8],
+    a: u64,
+    b: u64,
+    expected: Answer,
+    got: Answer,
+) -> io::Result<()> {
+    casebook::text(rt, b"wrong: ")?;
+    operands(rt, a, b)?;
+    casebook::text(rt, b" expected ")?;
+    show(rt, expected)?;
+    casebook::text(rt, b" got ")?;
+    show(rt, got)?;
+    casebook::text(rt, b" in ")?;
+    casebook::text(rt, group)
 }
 
-fn operands(a: u64, b: u64) {
-    casebook::hex(a, 16);
-    casebook::text(b" ");
-    casebook::hex(b, 16);
+fn operands(rt: &impl Print, a: u64, b: u64) -> io::Result<()> {
+    casebook::hex(rt, a, 16)?;
+    casebook::text(rt, b" ")?;
+    casebook::hex(rt, b, 16)
 }
 
-fn show(answer: Answer) {
+fn show(rt: &impl Print, answer: Answer) -> io::Result<()> {
     match answer {
-        Answer::Value(x) => casebook::hex(x, 16),
-        Answer::Absent => casebook::text(b"none"),
-        Answer::DivisorZero => casebook::text(b"divisor zero"),
-        Answer::OutOfRange => casebook::text(b"out of range"),
-        Answer::NoLeaf => casebook::text(b"no leaf"),
+        Answer::Value(x) => casebook::hex(rt, x, 16),
+        Answer::Absent => casebook::text(rt, b"none"),
+        Answer::DivisorZero => casebook::text(rt, b"divisor zero"),
+        Answer::OutOfRange => casebook::text(rt, b"out of range"),
+        Answer::NoLeaf => casebook::text(rt, b"no leaf"),
     }
 }

@@ -5,6 +5,9 @@ ghost use Rattle.cases_leaves.specs.Rows.{HoldsUnder};
 
 use crate::row;
 use crate::row::Field;
+use std::io::Read;
+use std::rt::Files;
+use std::{fs, io};
 
 const LINE: usize = 51;
 
@@ -21,70 +24,82 @@ enum Step {
     End,
 }
 
-// A proved loop has to end, and nothing says that the file does: so the loop counts its turns down, from a number that no run uses up.
-pub fn run(fd: i32) {
+// Opens the file and runs it; without one, a line says so.
+pub fn start<R: Files + Print>(rt: &R) -> io::Result<()> {
+    let Ok(file) = fs::open(rt, "vectors.txt") else {
+        return casebook::text(rt, b"wrong: vectors.txt is not to be read\n");
+    };
+    run(rt, file)
+}
+
+// A proved loop has to end, and nothing says that the file does: so the loop has a number of turns that no run uses up.
+fn run<F: Read + Drop>(rt: &impl Print, mut file: F) -> io::Result<()> {
     let mut group = [b' '; LINE];
     let mut passed: u64 = 0;
-    let mut turns = u64::MAX;
-    while 0 < turns {
-        turns -= 1;
-        let step = read_line(fd, &mut group, passed);
+    for _ in 0..u64::MAX {
+        let step = read_line(rt, &mut file, &mut group, passed)?;
         match step {
             Step::Passed(n) => {
                 passed = n;
             }
             Step::End => {
-                return;
+                return Ok(());
             }
         }
     }
+    Ok(())
 }
 
 // Reads a line and runs it; the count of the group's rows that have passed.
-fn read_line(fd: i32, group: &mut [u8; LINE], passed: u64) -> Step {
+fn read_line<F: Read>(
+    rt: &impl Print,
+    file: &mut F,
+    group: &mut [u8; LINE],
+    passed: u64,
+) -> io::Result<Step> {
     let mut line = [0u8; LINE];
-    let n = io::read_full(fd, &mut line);
+    let n = casebook::read_full(file, &mut line);
     if n == 0 {
-        end_group(group, passed);
-        return Step::End;
+        end_group(rt, group, passed)?;
+        return Ok(Step::End);
     }
     if n < LINE {
-        end_group(group, passed);
-        casebook::text(b"wrong: the last line of the vectors is short\n");
-        return Step::End;
+        end_group(rt, group, passed)?;
+        casebook::text(rt, b"wrong: the last line of the vectors is short\n")?;
+        return Ok(Step::End);
     }
     if line[0] == b'#' {
-        end_group(group, passed);
+        end_group(rt, group, passed)?;
         *group = line;
-        return Step::Passed(0);
+        return Ok(Step::Passed(0));
     }
-    Step::Passed(casebook::count(passed, run_row(group, &line)))
+    Ok(Step::Passed(casebook::count(passed, run_row(rt, group, &line))))
 }
 
 // Whether a row of the group holds; if not, with a line.
-fn run_row(group: &[u8], line: &[u8]) -> bool
+fn run_row(rt: &impl Print, group: &[u8], line: &[u8]) -> bool
     ensures { (result ≡ true) ↔ HoldsUnder group.now line.now }
 {
     let leaf = row::number(group, LEAF, 2);
     let Field::Value(n) = leaf else {
-        casebook::text(b"wrong: a row of vectors in no group\n");
+        let _ = casebook::text(rt, b"wrong: a row of vectors in no group\n");
         return false;
     };
-    row::holds(group, n, line)
+    row::holds(rt, group, n, line)
 }
 
 // The line of a group, if there was one.
-fn end_group(group: &[u8], passed: u64) {
+fn end_group(rt: &impl Print, group: &[u8], passed: u64) -> io::Result<()> {
     let length = row::number(group, LENGTH, 2);
     let Field::Value(n) = length else {
-        return;
+        return Ok(());
     };
     let end = NAME + (n % 256) as usize;
     if group.len() < end {
-        return;
+        return Ok(());
     }
-    casebook::text(&group[NAME..end]);
-    casebook::text(b": ");
-    casebook::decimal(passed);
-    casebook::text(b" passed\n");
+    casebook::text(rt, &group[NAME..end])?;
+    casebook::text(rt, b": ")?;
+    casebook::decimal(rt, passed)?;
+    casebook::text(rt, b" passed\n")
 }
