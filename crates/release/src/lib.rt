@@ -1,6 +1,7 @@
 // A whole release in one call (document 02, W9): images, each behind its length in 4 bytes. Each is rewritten by the default rewrite straight into
 // its place in the output. Nothing is written before the framing is known to be good and both buffers to have room.
 #![tactic(auto)]
+
 pub mod place;
 
 ghost use Rattle.std.specs.Prelude.{◌≡◌, length};
