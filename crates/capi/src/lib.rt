@@ -1,5 +1,6 @@
 // The operations for C and Rust: answers are numbers, and those behind the first are written through references.
 #![tactic(auto)]
+
 ghost use Rattle.std.specs.Prelude.{◌≡◌};
 ghost use Rattle.crystalfold.specs.declared.rules.RuleSet.TheVariants.{Default, Fuller};
 ghost use Rattle.passes.specs.declared.Pass.TheVariants.{Cleanup, CrystalFold};

@@ -1,5 +1,6 @@
 // What the programs `cases_*` share: how they count, how they read a file, and how they write, of which no contract can say anything.
 #![tactic(auto)]
+
 ghost use Rattle.std.specs.Prelude.{◌≡◌, ◌≤◌, length, take};
 ghost use Rattle.std.specs.Io.KnownBytes.{Consumes};
 ghost use Rattle.casebook.specs.Counts.{counted};
