@@ -7,6 +7,8 @@ pub fn copy(src: &[u8], dst: &mut [u8]) -> usize
     ensures { (result ≡ length src.now) × (dst.new ≡ take (length src.now) src.now ++ drop (length src.now) dst.old) }
 {
     let n = src.len();
-    dst[..n].copy_from_slice(src);
+    for i in 0..n {
+        dst[i] = src[i];
+    }
     n
 }
