@@ -15,7 +15,7 @@ use Rattle.cells.proofs.Facts.{by_test, clash, and_true, alike_true, alike-none,
 use Rattle.cells.proofs.Lists.{all_each}
 use Rattle.machine.specs.Values.{written_of}
 use Rattle.cleanup.specs.Marks.{terminal, is_there, jump_of, removable_load}
-use Rattle.cleanup.specs.Sweeps.{same_label, cut_off, same_next, next, sweep}
+use Rattle.cleanup.specs.Sweeps.{same_label, cut_off, same_next, sweep}
 use Rattle.cleanup.specs.Cleanup.{clean_code}
 use Rattle.cleanup.specs.Positions.{up_from}
 use Rattle.crystalfold.specs.Rules.{default_rules}

@@ -2,21 +2,20 @@
 use mathlib.Core.Path.{◌≡◌, refl, sym, ◌∙◌, ap, ap₂, subst}
 use mathlib.Core.Option.{Option, none, some}
 use mathlib.Core.List.{List, [], ◌∷◌, ◌++◌, map}
-use Prim.Native.Nat.{ℕ, zero, suc, ◌+◌, ◌-◌, ◌*◌, ◌/◌, ◌%◌, ◌≤◌, ◌<◌}
+use Prim.Native.Nat.{ℕ, zero, suc, ◌+◌, ◌-◌, ◌*◌, ◌/◌, ◌≤◌, ◌<◌}
 use native.Mathlib.Nat.{le_of_suc-le-suc, not-suc-le-zero}
 use native.Mathlib.Omega.{arith}
 use lib.ListN.{length, get_or, drop, length-map}
 use lib.Seq.{get_or-append-add}
 use Rattle.cells.specs.Cells.{Cell, cells}
 use Rattle.cells.specs.Check.{max_image}
-use Rattle.cells.specs.Functions.{Function, function_of, function_from, functions}
+use Rattle.cells.specs.Functions.{Function, function_from, functions}
 use Rattle.cells.specs.Lists.{All}
 use Rattle.cells.specs.Spans.{part, SpanAt}
 use Rattle.cells.specs.View.{view, Registers}
 use Rattle.cells.specs.WellFormed.{WellFormed}
 use Rattle.cells.specs.declared.refusal.Checked.TheVariants.{Good}
 use Rattle.cells.specs.declared.walk.Span.{Span}
-use Rattle.cells.proofs.Cells.{length-cells}
 use Rattle.cells.proofs.Spans.{length_part}
 use Rattle.image.specs.SiteCheck.{site_answer}
 use Rattle.image.proofs.Again.{image_formed, formed_next, few_cells}
@@ -24,8 +23,7 @@ use Rattle.image.proofs.Good.{site-good, InRange, good-registers}
 use Rattle.image.proofs.Steps.{functions_end}
 use Rattle.fates.specs.Fates.{function_fates}
 use Rattle.fates.specs.Answer.{fates_from, image_fates, told_at, told}
-use Rattle.fates.specs.Steps.{CodePart, FunctionParts}
-use Rattle.fates.specs.declared.CellFate.{CellFate}
+use Rattle.fates.specs.Steps.{FunctionParts}
 use Rattle.fates.specs.declared.CellFate.TheVariants.{Told, NothingToTell}
 use Rattle.fates.specs.declared.Fate.{Fate}
 use Rattle.fates.specs.declared.Fate.TheVariants.{RepeatedLabel}
@@ -95,9 +93,9 @@ module _ {s : List ℕ} {cell at : ℕ} (f : Finding s cell at) where
     pub next_is : r.end / 16 ≡ at + 1 + length this.code + length this.events
     next_is = omega (arith, z.code, z.events, z.end)
 
-    -- what is asked of the function's parts
-    pub parts_asked : FunctionParts (part s r.code r.events) (part s r.events r.end) (at + 1)
-    parts_asked =
+    -- what is asked of the function's parts, at any position that is not behind its first cell's
+    pub parts_asked : {first : ℕ} → first ≤ at + 1 → FunctionParts (part s r.code r.events) (part s r.events r.end) first
+    parts_asked near =
         let few = few_cells z f.formed in
         record {
           instructions = record {

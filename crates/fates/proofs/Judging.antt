@@ -3,7 +3,7 @@
 use mathlib.Core.Path.{◌≡◌, refl, sym, ◌∙◌, ap, ap₂, subst}
 use mathlib.Core.Bool.{true, false}
 use mathlib.Core.Option.{Option, none, some}
-use mathlib.Core.List.{List, [], ◌∷◌, map}
+use mathlib.Core.List.{List, [], map}
 use Prim.Native.Nat.{ℕ, ◌+◌, ◌/◌, ◌≤◌, ◌<◌}
 use native.Mathlib.Omega.{arith}
 use lib.ListN.{length, get_or, set, take, length-set}
@@ -16,7 +16,6 @@ use Rattle.leaves.specs.Verdicts.{value_in}
 use Rattle.cells.specs.Cells.{Cell, cells, cell_at}
 use Rattle.cells.specs.Check.{registers}
 use Rattle.cells.specs.Ins.{Const, Ins, load, comp, label, jmp, jmp_if, ret, act}
-use Rattle.cells.specs.Lists.{All}
 use Rattle.cells.specs.Spans.{part}
 use Rattle.cells.specs.View.{view, Registers}
 use Rattle.cells.proofs.Cells.{cell_at_lem, length-cells}
@@ -32,7 +31,7 @@ use Rattle.crystalfold.specs.declared.command.Command.TheVariants.{Barrier, Load
 use Rattle.crystalfold.proofs.Agreement.{Agree, all_unknown, agree_unknown, agree_note}
 use Rattle.crystalfold.proofs.Effects.{Effect, effect, Within, within}
 use Rattle.fates.specs.Fates.{verdict_of, judged}
-use Rattle.fates.specs.Steps.{kind_of, value_by, fold_fates, placed, CodePart, Judgeable, Judged, NumberedVerdict}
+use Rattle.fates.specs.Steps.{kind_of, value_by, fold_fates, placed, Judgeable, Judged, NumberedVerdict}
 use Rattle.fates.specs.declared.Fate.{Fate}
 use Rattle.fates.specs.declared.number.Numbered.{Numbered}
 

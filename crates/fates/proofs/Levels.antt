@@ -1,12 +1,11 @@
 -- How far a cell comes through the sweeps, and what its two numbers are by that.
-use mathlib.Core.Path.{◌≡◌, refl, sym, ◌∙◌, ap, ap₂}
+use mathlib.Core.Path.{◌≡◌, refl}
 use mathlib.Core.Bool.{Bool, true, false, cond, not}
 use mathlib.Core.List.{List}
-use Prim.Native.Nat.{ℕ, ◌/◌}
-use lib.Dec.{eqb, ltb}
-use lib.ListN.{length}
+use Prim.Native.Nat.{ℕ}
+use lib.Dec.{ltb}
 use Rattle.cells.specs.Ins.{label_of}
-use Rattle.cells.proofs.Facts.{by_test, clash}
+use Rattle.cells.proofs.Facts.{clash}
 use Rattle.cells.proofs.Lists.{Sub}
 use Rattle.cleanup.specs.Marks.{jump_of, removable_load}
 use Rattle.cleanup.specs.Positions.{see_at, every, left₁, left₂, left₃, left₄}

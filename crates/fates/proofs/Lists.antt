@@ -1,14 +1,14 @@
 -- Positions in a list: which are among it, increasing lists, and numbers written at places of another list.
-use mathlib.Core.Path.{◌≡◌, refl, sym, ◌∙◌, ap, ap₂, subst}
-use mathlib.Core.Bool.{Bool, true, false, cond, ◌||◌, not, true≢false}
-use mathlib.Core.List.{List, [], ◌∷◌, ◌++◌, map}
+use mathlib.Core.Path.{◌≡◌, refl, sym, ◌∙◌}
+use mathlib.Core.Bool.{Bool, true, false, cond}
+use mathlib.Core.List.{List, [], ◌∷◌}
 use Prim.Native.Nat.{ℕ, zero, suc, ◌+◌, ◌≤◌, ◌<◌}
 use native.Mathlib.Omega.{arith}
 use lib.Dec.{eqb}
 use lib.ListN.{length, get_or, set, length-set}
 use lib.Seq.{get_or-set_same, get_or-set_other}
-use Rattle.cells.specs.Lists.{any, All}
-use Rattle.cells.proofs.Facts.{by_test, clash, eqb_true, eqb_self, eqb_false, or_false}
+use Rattle.cells.specs.Lists.{All}
+use Rattle.cells.proofs.Facts.{by_test, clash, eqb_true, eqb_false, or_false}
 use Rattle.cells.proofs.Lists.{Sub, end, keep, skip, sub_all}
 use Rattle.cleanup.specs.Positions.{up_from, AllBelow}
 use Rattle.fates.specs.Fates.{among}

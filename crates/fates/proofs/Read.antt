@@ -2,7 +2,7 @@
 use mathlib.Core.Path.{◌≡◌, refl}
 use mathlib.Core.Bool.{Bool, true, false, cond}
 use mathlib.Core.Option.{Option, none, some}
-use mathlib.Core.List.{List, [], ◌∷◌, ◌++◌, map}
+use mathlib.Core.List.{List, [], ◌∷◌, map}
 use Prim.Native.Nat.{ℕ}
 use lib.Dec.{eqb}
 use lib.ListN.{length}
@@ -19,10 +19,9 @@ use Rattle.cleanup.specs.Cleanup.{stays}
 use Rattle.cleanup.specs.Positions.{up_from}
 use Rattle.crystalfold.specs.Rules.{default_rules}
 use Rattle.crystalfold.specs.Fold.{Table, unknown, known_after}
-use Rattle.fates.specs.Fates.{among, left₁, left₂, left₃, left₄, nearest_end, verdict_of, load_of, folded_as, judged, fold_fate, code_fate, see_in, code_fates, event_fate, event_fates, function_fates}
+use Rattle.fates.specs.Fates.{among, left₁, left₂, left₃, left₄, verdict_of, load_of, folded_as, judged, fold_fate, code_fate, see_in, code_fates, event_fate, event_fates, function_fates}
 use Rattle.fates.specs.Steps.{kind_of, value_by, fate_by}
 use Rattle.fates.specs.declared.Fate.{Fate}
-use Rattle.fates.specs.declared.Fate.TheVariants.{Unreachable}
 use Rattle.fates.proofs.Levels.{by_level}
 
 abbrev pub Readable : Fate → Type 0

@@ -3,19 +3,17 @@ use mathlib.Core.Path.{◌≡◌, refl, sym, ◌∙◌, ap, ap₂, fun_ext}
 use mathlib.Core.Bool.{Bool, true, false, cond, ◌||◌, not}
 use mathlib.Core.List.{List, [], ◌∷◌, map}
 use Prim.Native.Nat.{ℕ, ◌+◌, ◌/◌, ◌≤◌, ◌<◌}
-use native.Mathlib.Omega.{arith}
 use lib.ListN.{length, set, drop}
 use Rattle.cells.specs.Cells.{Cell, cells, cell_at}
 use Rattle.cells.specs.View.{view}
 use Rattle.cells.proofs.Going.{Going, going_start, going_put, going_end}
 use Rattle.sites.specs.Sites.{site_of, event_site, sites_on}
 use Rattle.sites.specs.declared.Which.TheVariants.{Activation, Write}
-use Rattle.cleanup.specs.Cleanup.{stays}
-use Rattle.cleanup.specs.Receipts.{among, spared}
+use Rattle.cleanup.specs.Receipts.{among}
 use Rattle.cleanup.specs.Sweeps.{removed}
 use Rattle.cleanup.proofs.GoneSites.{among_sites}
 use Rattle.cleanup.proofs.Writing.{cells_cons, cells-none}
-use Rattle.fates.specs.Fates.{event_fate, event_fates}
+use Rattle.fates.specs.Fates.{event_fates}
 use Rattle.fates.specs.Steps.{kind_of, value_by, Listed, spared_fate}
 use Rattle.fates.specs.declared.Fate.{Fate}
 use Rattle.fates.specs.declared.Fate.TheVariants.{EventGone, Kept}

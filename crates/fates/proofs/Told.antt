@@ -1,7 +1,6 @@
 -- What the answer says: where a cell stands, and that its fate is true there.
 use mathlib.Core.Path.{◌≡◌, refl, sym, ◌∙◌, ap, ap₂, subst}
 use mathlib.Core.Logic.{◌↔◌, ◌⊎◌, inl, inr}
-use mathlib.Core.Bool.{true, false}
 use mathlib.Core.Option.{Option, none, some}
 use mathlib.Core.List.{List, [], ◌∷◌, ◌++◌, map}
 use Prim.Native.Nat.{ℕ, zero, suc, ◌+◌, ◌-◌, ◌/◌, ◌≤◌, ◌<◌}
@@ -9,7 +8,7 @@ use native.Mathlib.Nat.{le_of_suc-le-suc, not-suc-le-zero}
 use native.Mathlib.Omega.{arith}
 use borrow.Author.Tests.{ltb-true, ltb-false}
 use lib.Dec.{ltb}
-use lib.ListN.{length, get_or, length-append, length-map}
+use lib.ListN.{length, get_or, length-append}
 use Rattle.cells.specs.Cells.{Cell, cells}
 use Rattle.cells.specs.Functions.{Function, functions, cells_of, cells_of_all}
 use Rattle.cells.specs.declared.refusal.Checked.{Checked}
@@ -23,8 +22,8 @@ use Rattle.image.proofs.Good.{site-good}
 use Rattle.cleanup.specs.Positions.{up_from}
 use Rattle.cleanup.proofs.Positions.{length_up_from}
 use Rattle.fates.specs.Fates.{code_fate, see_in, code_fates, event_fate, event_fates, function_fates}
-use Rattle.fates.specs.Answer.{fates_from, image_fates, told, told_at, or_tell, fate_answer}
-use Rattle.fates.specs.Claim.{CodeTrue, EventTrue, OneOf}
+use Rattle.fates.specs.Answer.{fates_from, image_fates, told, or_tell, fate_answer}
+use Rattle.fates.specs.Claim.{CodeTrue, EventTrue}
 use Rattle.fates.specs.Promises.{reply_of, HeadAt, CellAt, TrueOf, FateTold}
 use Rattle.fates.specs.declared.Fate.{Fate}
 use Rattle.fates.specs.declared.Fate.TheVariants.{RepeatedLabel}
@@ -82,7 +81,7 @@ past_entry d (f ∷ fs) k h =
     let n = length (own d f) in
     let l : length (cells_of f ++ cells_of_all fs) ≡ suc (n + length (cells_of_all fs)) = length-append (cells_of f) (cells_of_all fs) ∙ ap (λ (j : ℕ). j + length (cells_of_all fs)) (length_own d f) ∙ omega arith in
     let e : k ≡ suc (n + (k - suc n)) = omega arith in
-    ap (λ (j : ℕ). get_or (fates_from d (f ∷ fs)) j none) e ∙ get_or-behind (own d f) _ (k - suc n) ∙ past_entry _ fs (k - suc n) (omega arith)
+    ap (λ (j : ℕ). get_or (fates_from d (f ∷ fs)) j none) e ∙ get_or-behind (own d f) _ (k - suc n) ∙ past_entry (d + 1 + length f.code + length f.events) fs (k - suc n) (omega arith)
 
 -- ---- each position is a head's, a cell's, or past the end
 

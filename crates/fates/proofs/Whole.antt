@@ -6,7 +6,7 @@ use Prim.Native.Nat.{ℕ, zero, suc, ◌+◌, ◌-◌, ◌*◌, ◌/◌, ◌%◌
 use native.Mathlib.Nat.{le_of_suc-le-suc, not-suc-le-zero}
 use native.Mathlib.Omega.{arith}
 use lib.Dec.{eqb, ltb}
-use lib.ListN.{length, get_or, set, take, drop, length-map, length-set, length-append, get_or-append, drop_of_length-le}
+use lib.ListN.{length, get_or, set, take, drop, length-map, length-set, length-append, drop_of_length-le}
 use lib.Seq.{ext_get_or, get_or-set_same}
 use native.Mathlib.Nat.{zero-add}
 use borrow.Author.Tests.{ltb-true, ltb-false}
@@ -31,7 +31,7 @@ use Rattle.fates.specs.Steps as steps
 use Rattle.fates.specs.declared.Fate.{Fate}
 use Rattle.fates.specs.declared.Fate.TheVariants.{RepeatedLabel}
 use Rattle.fates.proofs.Lists.{Above, Increasing, increasing_up, sub_increasing, among-above, among_below, among_up, length_marked, get_or-marked, get_or-marked-behind, length-placed, get_or-placed_other}
-use Rattle.fates.proofs.Levels.{Level, sub₁, sub₂, sub₃, sub₄, level_at, by_level, swept_kind, kind_by, value-by, reached_by}
+use Rattle.fates.proofs.Levels.{sub₁, sub₂, sub₃, sub₄, level_at, by_level, swept_kind, kind_by, value-by, reached_by}
 use Rattle.fates.proofs.Read.{Readable}
 
 -- ---- along the cells left, each place has the number of the fate there
@@ -217,7 +217,7 @@ module _ (s : List ℕ) where
           over_first (end_values first s (swept_kinds s kinds)) before k (omega (arith, count))
           ∙ get_or_up (end_value first (see_at s) (swept_kinds s kinds)) 0 n k h ∙ ap (end_value first (see_at s) (swept_kinds s kinds)) (zero-add k)
           ∙ ap₂ (λ (x y : ℕ). steps.named_of x (first + y)) (swept_at kinds r k h)
-          (nearest_same (λ (j : ℕ). steps.isEnd (see_at s) j (get_or (swept_kinds s kinds) j 0)) (λ (j : ℕ). among j (left₂ s) && terminal (see_at s j)) k
+          (nearest_same (λ (j : ℕ). steps.is_end (see_at s) j (get_or (swept_kinds s kinds) j 0)) (λ (j : ℕ). among j (left₂ s) && terminal (see_at s j)) k
           (λ j b. ap (λ (x : Bool). x && terminal (see_at s j)) (ap (ltb 2) (swept_at kinds r j (omega arith)) ∙ reached_by (level_at s j))))
 
 -- what the bytes show at a position is what the cell there is, also behind the end

@@ -6,7 +6,6 @@
 use Rattle.std.specs.Prelude.{ℕ, zero, suc, ◌+◌, Bool, cond, ◌&&◌, not, List, [], ◌∷◌, ◌++◌, map, eqb, length, get_or}
 use Rattle.std.proofs.Math.Option.{Option, none, some}
 use Rattle.leaves.specs.Quads.{number_of}
-use Rattle.leaves.specs.declared.constant.ConstVal.{ConstVal}
 use Rattle.leaves.specs.declared.verdict.Verdict.{Verdict}
 use Rattle.leaves.specs.declared.verdict.Verdict.TheVariants.{Value, LeftUnknown as LeftIs, RightUnknown as RightIs, Unfit as UnfitIs, DivisorZero as ZeroIs, OutOfRange as RangeIs, NotComputed}
 use Rattle.cells.specs.Cells.{Cell}
@@ -23,7 +22,6 @@ use Rattle.crystalfold.specs.Rules.{default_rules, known_of}
 use Rattle.crystalfold.specs.Fold.{Table, unknown, known_after}
 use Rattle.fates.specs.declared.Fate.{Fate}
 use Rattle.fates.specs.declared.Fate.TheVariants.{RepeatedLabel, Unreachable, JumpToNext, LoadOverwritten, Folded, EventGone, Kept}
-use Rattle.fates.specs.declared.Reason.{Reason}
 use Rattle.fates.specs.declared.Reason.TheVariants.{Nothing, LeftUnknown, RightUnknown, Unfit, DivisorZero, OutOfRange}
 
 -- ---- by the sweeps: n instruction cells, and what each is

@@ -1,5 +1,6 @@
 // What became of a cell under the default rewrite (document 02, W6): of one cell of an image, and of all cells of a function at once.
 #![tactic(auto)]
+
 pub mod events;
 pub mod judge;
 pub mod number;
