@@ -1,5 +1,9 @@
-// Standard input, read to its end.
+// Standard input, read to its end; and, in `words` and `report`, what the programs share besides.
 #![tactic(auto)]
+
+pub mod report;
+pub mod words;
+
 ghost use Rattle.std.specs.Prelude.{◌≡◌, ◌≤◌, ◌<◌, min, length, take};
 ghost use Rattle.input.specs.Reading.{StepWithin, Within};
 
