@@ -1,6 +1,7 @@
 // Runs the operations on whole images: those written out by hand (tests/images), and the sample of the original's answers
 // (tests/differential). Writes each group with its counts.
 #![tactic(auto)]
+
 mod call;
 mod lent;
 mod operation;

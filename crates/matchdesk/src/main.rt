@@ -1,6 +1,7 @@
 // The program: reads an image or a packed form on standard input, does the job that its argument names, and writes what the job says. Or finds
 // the other factor of a product, by its arguments alone.
 #![tactic(auto)]
+
 mod product;
 
 ghost use Rattle.std.specs.Prelude.{◌≡◌, ◌≤◌, length, replicate};

@@ -1,6 +1,7 @@
 // The program behind `./matchdesk release`: reads a release on standard input, and writes the framed output to standard output and a line an image to
 // standard error. Images are rewritten one by one, so that besides the input only one image is held.
 #![tactic(auto)]
+
 ghost use Rattle.std.specs.Prelude.{◌≡◌, ◌≤◌, length, replicate};
 ghost use Rattle.io.specs.Counts.{IsPrefixLen};
 ghost use Rattle.listing.specs.Promises.{TextWritten};
