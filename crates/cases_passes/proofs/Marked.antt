@@ -4,7 +4,7 @@ use mathlib.Core.Path.{◌≡◌, refl, sym, ◌∙◌, ap}
 use mathlib.Core.List.{List, [], ◌∷◌, ◌++◌}
 use native.Mathlib.Omega.{arith}
 use native.Mathlib.Numerals.{add-one}
-use lib.ListN.{length, take, drop, get_or, set, length-take, length-append}
+use lib.ListN.{length, take, get_or, set, length-take, length-append}
 use lib.Seq.{take-suc, take-suc-set, take_all}
 use Rattle.cases_passes.specs.Rows.{marks}
 

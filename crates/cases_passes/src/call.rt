@@ -7,37 +7,38 @@ use crate::lent::MAX_ROOM;
 use crate::operation::{Asked, Operation, Reply};
 use crate::{lent, operation};
 use cells::read;
+use std::io;
 
 // Bytes of a record's head.
 pub const HEAD: usize = 24;
 
 // Whether the call answers and writes what its head and `want` say; if not, with a line.
-pub fn holds(head: &[u8; HEAD], name: &[u8], image: &[u8], want: &[u8]) -> bool
+pub fn holds(rt: &impl Print, head: &[u8; HEAD], name: &[u8], image: &[u8], want: &[u8]) -> bool
     ensures { (result ≡ true) ↔ Holds head.now image.now want.now }
 {
     let answers = read::half(head, 22);
     let asked = operation::asked_by(head[0], answers as u16);
     let Asked::Run(operation) = asked else {
-        return malformed(name);
+        return malformed(rt, name);
     };
     let room = read::word(head, 8);
     let expected = reply_in(head);
     let n = expected.length;
     if MAX_ROOM < room {
-        return malformed(name);
+        return malformed(rt, name);
     }
     if room < n {
-        return malformed(name);
+        return malformed(rt, name);
     }
     if room < answers {
-        return malformed(name);
+        return malformed(rt, name);
     }
     if want.len() < n {
-        return malformed(name);
+        return malformed(rt, name);
     }
     let held = lent::agrees(operation, image, &want[..n], expected, room);
     if !held {
-        wrong(head[0], name, operation, image, room, expected);
+        let _ = wrong(rt, head[0], name, operation, image, room, expected);
     }
     held
 }
@@ -55,30 +56,42 @@ fn reply_in(head: &[u8; HEAD]) -> Reply
     }
 }
 
-fn malformed(name: &[u8]) -> bool
+fn malformed(rt: &impl Print, name: &[u8]) -> bool
     ensures { result ≡ false }
 {
-    casebook::text(b"wrong: ");
-    casebook::text(name);
-    casebook::text(b", a malformed call\n");
+    let _ = not_read(rt, name);
     false
 }
 
+fn not_read(rt: &impl Print, name: &[u8]) -> io::Result<()> {
+    casebook::text(rt, b"wrong: ")?;
+    casebook::text(rt, name)?;
+    casebook::text(rt, b", a malformed call\n")
+}
+
 // The operation's byte, the bytes lent, and both answers; where these are the same, the output is wrong.
-fn wrong(byte: u8, name: &[u8], operation: Operation, image: &[u8], room: usize, expected: Reply)
+fn wrong(
+    rt: &impl Print,
+    byte: u8,
+    name: &[u8],
+    operation: Operation,
+    image: &[u8],
+    room: usize,
+    expected: Reply,
+) -> io::Result<()>
     requires { room ≤ 242440 }
 {
-    casebook::text(b"wrong: ");
-    casebook::text(name);
-    casebook::text(b", operation ");
-    number(byte as usize);
-    casebook::text(b"lent ");
-    number(room);
-    casebook::text(b"expected ");
-    show(expected);
-    casebook::text(b"got ");
-    show(again(operation, image, room));
-    casebook::text(b"\n");
+    casebook::text(rt, b"wrong: ")?;
+    casebook::text(rt, name)?;
+    casebook::text(rt, b", operation ")?;
+    number(rt, byte as usize)?;
+    casebook::text(rt, b"lent ")?;
+    number(rt, room)?;
+    casebook::text(rt, b"expected ")?;
+    show(rt, expected)?;
+    casebook::text(rt, b"got ")?;
+    show(rt, again(operation, image, room))?;
+    casebook::text(rt, b"\n")
 }
 
 // The answer of one more call.
@@ -90,16 +103,16 @@ fn again(operation: Operation, image: &[u8], room: usize) -> Reply
     operation::run(operation, image, &mut out[..room])
 }
 
-fn show(r: Reply) {
-    number(r.number);
-    number(r.position);
-    number(r.detail);
-    number(r.length);
-    number(r.rewrites);
-    number(r.changed);
+fn show(rt: &impl Print, r: Reply) -> io::Result<()> {
+    number(rt, r.number)?;
+    number(rt, r.position)?;
+    number(rt, r.detail)?;
+    number(rt, r.length)?;
+    number(rt, r.rewrites)?;
+    number(rt, r.changed)
 }
 
-fn number(n: usize) {
-    casebook::decimal(n as u64);
-    casebook::text(b" ");
+fn number(rt: &impl Print, n: usize) -> io::Result<()> {
+    casebook::decimal(rt, n as u64)?;
+    casebook::text(rt, b" ")
 }

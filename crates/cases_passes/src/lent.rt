@@ -5,6 +5,7 @@ ghost use Rattle.cases_passes.specs.Rows.{marks, lent, Agrees};
 
 use crate::operation;
 use crate::operation::{Operation, Reply};
+use cells::buffer;
 
 // The most bytes that are lent: the longest pages, and a line more.
 pub const MAX_ROOM: usize = 242440;
@@ -57,7 +58,7 @@ fn agrees_within(
 {
     mark(out);
     mark(model);
-    bytes::copy(want, model);
+    buffer::copy(want, model);
     let got = operation::run(operation, image, &mut out[..room]);
     let replied = operation::same(got, expected);
     let written = same_bytes(out, model);

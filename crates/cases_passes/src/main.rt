@@ -9,19 +9,19 @@ mod parts;
 mod records;
 mod runs;
 
-fn main() {
-    file(b"images.bin");
-    file(b"sample.bin");
+use std::rt::Files;
+use std::{fs, io};
+
+fn main(rt: HostRuntime) {
+    let _ = file(&rt, "images.bin");
+    let _ = file(&rt, "sample.bin");
 }
 
-fn file(name: &[u8]) {
-    let fd = os::open_read(name);
-    if fd < 0 {
-        casebook::text(b"wrong: not to be read: ");
-        casebook::text(name);
-        casebook::text(b"\n");
-        return;
-    }
-    records::run(fd);
-    libc::close(fd);
+fn file<R: Files + Print>(rt: &R, name: &str) -> io::Result<()> {
+    let Ok(file) = fs::open(rt, name) else {
+        casebook::text(rt, b"wrong: not to be read: ")?;
+        casebook::text(rt, name.as_bytes())?;
+        return casebook::text(rt, b"\n");
+    };
+    records::run(rt, file)
 }

@@ -6,6 +6,7 @@ ghost use Rattle.cases_passes.specs.Operations.{images_in, parts_reply, parts_ou
 
 use crate::operation;
 use crate::operation::Reply;
+use cells::buffer;
 use cells::refusal::Numbers;
 use release::place::ANSWER;
 use release::{Framing, Released};
@@ -48,9 +49,9 @@ fn rewrite_within(release: &[u8], lent: &mut [u8], cut: usize, answers: &mut [u8
     ensures lent_after { lent.new ≡ parts_output release.now cut lent.old }
     ensures answers_after { answers.new ≡ release_answers release.now cut (drop cut lent.old) }
 {
-    bytes::copy(&lent[cut..], answers);
+    buffer::copy(&lent[cut..], answers);
     let r = release::rewrite_release(release, &mut lent[..cut], answers);
-    bytes::copy(answers, &mut lent[cut..]);
+    buffer::copy(answers, &mut lent[cut..]);
     r
 }
 

@@ -5,6 +5,8 @@ ghost use Rattle.cases_passes.specs.States.{state_of, HoldsIn};
 
 use crate::call::HEAD;
 use crate::{call, runs};
+use std::io;
+use std::io::Read;
 
 // Bytes of the longest image here, a cell more than the limit.
 const LONGEST: usize = 65552;
@@ -29,26 +31,27 @@ enum Step {
     End,
 }
 
-// A proved loop has to end, and nothing says that the file does: so the loop counts its turns down, from a number that no run uses up.
-pub fn run(fd: i32) {
-    let mut group = io::buffer();
-    let mut name = io::buffer();
+// A proved loop has to end, and nothing says that the file does: so the loop has a number of turns that no run uses up.
+pub fn run<F: Read + Drop>(rt: &impl Print, mut file: F) -> io::Result<()> {
+    let mut group = [0u8; 4096];
+    let mut name = [0u8; 4096];
     let mut image = longest();
     let mut want = longest_output();
     let mut state = start(0);
-    let mut turns = u64::MAX;
-    while 0 < turns {
-        turns -= 1;
-        let step = record(fd, &mut group, &mut name, &mut image, &mut want, state);
+    for _ in 0..u64::MAX {
+        let step = record(
+            rt, &mut file, &mut group, &mut name, &mut image, &mut want, state,
+        )?;
         match step {
             Step::Next(s) => {
                 state = s;
             }
             Step::End => {
-                return;
+                return Ok(());
             }
         }
     }
+    Ok(())
 }
 
 fn longest() -> [u8; LONGEST]
@@ -63,39 +66,40 @@ fn longest_output() -> [u8; OUTPUT]
     [0; OUTPUT]
 }
 
-fn record(
-    fd: i32,
+fn record<F: Read>(
+    rt: &impl Print,
+    file: &mut F,
     group: &mut [u8; 4096],
     name: &mut [u8; 4096],
     image: &mut [u8; LONGEST],
     want: &mut [u8; OUTPUT],
     s: State,
-) -> Step {
+) -> io::Result<Step> {
     let mut head = [0u8; HEAD];
-    let n = io::read_full(fd, &mut head);
+    let n = casebook::read_full(file, &mut head);
     if n < HEAD {
-        show(group, s);
+        show(rt, group, s)?;
         if 0 < n {
-            casebook::text(b"wrong: the file ends within a record\n");
+            casebook::text(rt, b"wrong: the file ends within a record\n")?;
         }
-        return Step::End;
+        return Ok(Step::End);
     }
     match head[0] {
         0 => {
-            show(group, s);
-            Step::Next(start(runs::read(fd, &head, group)))
+            show(rt, group, s)?;
+            Ok(Step::Next(start(runs::read(rt, file, &head, group))))
         }
-        1 => Step::Next(named(s, runs::read(fd, &head, name))),
-        2 => Step::Next(sent(
+        1 => Ok(Step::Next(named(s, runs::read(rt, file, &head, name)))),
+        2 => Ok(Step::Next(sent(
             s,
-            runs::read(fd, &head, image),
+            runs::read(rt, file, &head, image),
             casebook::count(s.images, true),
-        )),
-        3 => Step::Next(wanted(s, runs::read(fd, &head, want))),
-        _ => Step::Next(called(
+        ))),
+        3 => Ok(Step::Next(wanted(s, runs::read(rt, file, &head, want)))),
+        _ => Ok(Step::Next(called(
             s,
-            casebook::count(s.passed, held(&head, name, image, want, s)),
-        )),
+            casebook::count(s.passed, held(rt, &head, name, image, want, s)),
+        ))),
     }
 }
 
@@ -166,7 +170,14 @@ fn called(s: State, passed: u64) -> State
 }
 
 // Whether the call in the head holds of the row's image and output.
-fn held(head: &[u8; HEAD], name: &[u8], image: &[u8], want: &[u8], s: State) -> bool
+fn held(
+    rt: &impl Print,
+    head: &[u8; HEAD],
+    name: &[u8],
+    image: &[u8],
+    want: &[u8],
+    s: State,
+) -> bool
     ensures { (result ≡ true) ↔ HoldsIn head.now name.now image.now want.now s }
 {
     let a = s.name;
@@ -181,23 +192,23 @@ fn held(head: &[u8; HEAD], name: &[u8], image: &[u8], want: &[u8], s: State) -> 
     if want.len() < c {
         return false;
     }
-    call::holds(head, &name[..a], &image[..b], &want[..c])
+    call::holds(rt, head, &name[..a], &image[..b], &want[..c])
 }
 
 // The line of a group, if there was one.
-fn show(group: &[u8], s: State) {
+fn show(rt: &impl Print, group: &[u8], s: State) -> io::Result<()> {
     let n = s.group;
     if n == 0 {
-        return;
+        return Ok(());
     }
     if group.len() < n {
-        return;
+        return Ok(());
     }
     let start: usize = 0;
-    casebook::text(&group[start..n]);
-    casebook::text(b": ");
-    casebook::decimal(s.images);
-    casebook::text(b" images, ");
-    casebook::decimal(s.passed);
-    casebook::text(b" answers passed\n");
+    casebook::text(rt, &group[start..n])?;
+    casebook::text(rt, b": ")?;
+    casebook::decimal(rt, s.images)?;
+    casebook::text(rt, b" images, ")?;
+    casebook::decimal(rt, s.passed)?;
+    casebook::text(rt, b" answers passed\n")
 }

@@ -5,12 +5,13 @@ ghost use Rattle.cases_passes.specs.Runs.{put_numbered, put_run};
 use crate::call::HEAD;
 use cells::read;
 use cells::read::CELL;
+use std::io::Read;
 
 // Bytes of a run in a file: how often (2), the place (2), the cell.
 const RUN: usize = 20;
 
 // Reads the runs that a record's head announces over the start of a buffer; how many bytes count. No contract can say what is read.
-pub fn read(fd: i32, head: &[u8; HEAD], buffer: &mut [u8]) -> usize
+pub fn read<F: Read>(rt: &impl Print, file: &mut F, head: &[u8; HEAD], buffer: &mut [u8]) -> usize
     ensures { result ≤ length buffer.old }
 {
     let n = read::word(head, 12);
@@ -18,23 +19,26 @@ pub fn read(fd: i32, head: &[u8; HEAD], buffer: &mut [u8]) -> usize
     let mut at: usize = 0;
     let mut i: usize = 0;
     while i < count {
-        at += read_run(fd, buffer, at);
+        at += read_run(file, buffer, at);
         i += 1;
     }
     if CELL * at < n {
-        casebook::text(b"wrong: the file ends within a record, or a record is too long\n");
+        let _ = casebook::text(
+            rt,
+            b"wrong: the file ends within a record, or a record is too long\n",
+        );
         return 0;
     }
     n
 }
 
 // Reads a run and writes its cells from a position on; how many cells these are, 0 where there is no run or no room.
-fn read_run(fd: i32, buffer: &mut [u8], at: usize) -> usize
+fn read_run<F: Read>(file: &mut F, buffer: &mut [u8], at: usize) -> usize
     requires { at ≤ length buffer.old / 16 }
     ensures { at + result ≤ length buffer.old / 16 }
 {
     let mut run = [0u8; RUN];
-    if io::read_full(fd, &mut run) < RUN {
+    if casebook::read_full(file, &mut run) < RUN {
         return 0;
     }
     let count = read::half(&run, 0);

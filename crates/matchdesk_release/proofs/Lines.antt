@@ -8,7 +8,7 @@ use borrow.Author.Tests.{eq-eqb, ne_eqb}
 use lib.Dec.{eqb}
 use lib.ListN.{length, take, drop, length-append, length-take, length-drop}
 use lib.Seq.{length-take-le}
-use Rattle.io.specs.Counts.{IsPrefixLen}
+use Rattle.input.specs.Prefix.{IsPrefixLen}
 use Rattle.cells.specs.Bytes.{word}
 use Rattle.cells.specs.Cells.{over}
 use Rattle.cells.specs.declared.refusal.Numbers.{Numbers}

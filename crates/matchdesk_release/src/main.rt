@@ -3,7 +3,7 @@
 #![tactic(auto)]
 
 ghost use Rattle.std.specs.Prelude.{◌≡◌, ◌≤◌, length, replicate};
-ghost use Rattle.io.specs.Counts.{IsPrefixLen};
+ghost use Rattle.input.specs.Prefix.{IsPrefixLen};
 ghost use Rattle.listing.specs.Promises.{TextWritten};
 ghost use Rattle.matchdesk_release.specs.Program.{answer_text, image_line, image_texts};
 ghost use Rattle.matchdesk_release.specs.Promises.{is_refused, Framed, Says};
@@ -12,9 +12,12 @@ use cells::check::MAX_IMAGE;
 use cells::read;
 use cells::refusal::Numbers;
 use input::Input;
-use libc::{STDERR_FILENO, STDOUT_FILENO};
+use input::report::fail;
+use input::words::{arg, arg_count, same};
 use release::Framing;
 use release::place::{ANSWER, NUMBER};
+use std::io;
+use std::rt::Env;
 
 // What is said: so many bytes at the start of the buffer for standard output, and of the one for standard error.
 #[derive(Clone, Copy)]
@@ -35,40 +38,37 @@ const FRAME: usize = NUMBER + MAX_IMAGE;
 // Bytes of the longest line: a place of 20 digits, a blank, and a refusal.
 const LINE: usize = 92;
 
-fn main() {
-    if !is_asked() {
-        io::write_all(
-            STDERR_FILENO,
-            b"usage: matchdesk_release release < images\n",
-        );
+fn main(rt: HostRuntime) {
+    let out = rt.stdout();
+    let err = rt.stderr();
+    if !is_asked(&rt) {
+        let _ = err.write_all(b"usage: matchdesk_release release < images\n");
         return;
     }
     let mut buffer = input_buffer();
-    let input = input::read_to_end(&mut buffer, 0, MAX_RELEASE);
-    let Input::Bytes(n) = input else {
-        os::fail(b"standard input");
-        return;
-    };
-    answer(&buffer[..n]);
+    match input::read_to_end(&rt, &mut buffer, 0, MAX_RELEASE) {
+        Input::Bytes(n) => answer(&out, &err, &buffer[..n]),
+        Input::InputFailed(error) => fail(&err, b"standard input", error),
+    }
 }
 
 // Whether the one argument is `release`.
-fn is_asked() -> bool {
-    if os::arg_count() != 2 {
+fn is_asked(rt: &impl Env) -> bool {
+    if arg_count(rt) != 2 {
         return false;
     }
     let mut word = [0u8; 16];
-    let m = os::arg(1, &mut word);
-    check::same(&word[..m], b"release")
+    let m = arg(rt, 1, &mut word);
+    same(&word[..m], b"release")
 }
 
-fn answer(input: &[u8]) {
+fn answer(out: &impl Print, err: &impl Print, input: &[u8]) {
     if is_refused(input) {
-        io::write_all(STDERR_FILENO, b"refused 33\n");
+        let _ = err.write_all(b"refused 33\n");
         return;
     }
-    if !write_images(input) {
-        os::fail(b"standard output");
+    if let Err(error) = write_images(out, err, input) {
+        fail(err, b"standard output", error);
     }
 }
 
@@ -86,9 +86,9 @@ fn is_refused(input: &[u8]) -> bool
     }
 }
 
-// Says each image's texts, in order; whether standard output took them. No contract can say what is written; of each image it is what `say_image`
-// promises.
-fn write_images(release: &[u8]) -> bool
+// Says each image's texts, in order, as long as standard output takes them. No contract can say what is written; of each image it is what
+// `say_image` promises.
+fn write_images(out: &impl Print, err: &impl Print, release: &[u8]) -> io::Result<()>
     requires { Framed release.now }
 {
     let mut frame = frame_buffer();
@@ -102,14 +102,12 @@ fn write_images(release: &[u8]) -> bool
         let said = say_image(place, &release[start..end], &mut frame, &mut line);
         let a = said.output;
         let b = said.error;
-        if !io::write_all(STDOUT_FILENO, &frame[..a]) {
-            return false;
-        }
-        io::write_all(STDERR_FILENO, &line[..b]);
+        out.write_all(&frame[..a])?;
+        let _ = err.write_all(&line[..b]);
         at = end;
         place += 1;
     }
-    true
+    Ok(())
 }
 
 // The image that is handed back, behind its length, and the image's line.

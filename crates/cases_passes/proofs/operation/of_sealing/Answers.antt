@@ -1,0 +1,11 @@
+-- `cases_passes::operation::of_sealing` meets its contract.
+use Rattle.cases_passes.proofs.operation.of_sealing.Goals as goal
+
+pub returns-in-Good : goal.returns-in-Good
+returns-in-Good c = simp (c.good.ensures, c.in-Good.is)
+
+pub returns-in-Refused : goal.returns-in-Refused
+returns-in-Refused c = simp (c.refused.ensures, c.numbers_of.ensures, c.in-Refused.is)
+
+pub returns-in-Repeated : goal.returns-in-Repeated
+returns-in-Repeated c = simp (c.refused-in-Repeated.ensures, c.repeat_number.ensures, c.in-Repeated.is)
