@@ -6,7 +6,7 @@ use native.Mathlib.Omega.{arith}
 use borrow.Author.Tests.{leb-false}
 use lib.Dec.{leb}
 use lib.ListN.{length}
-use Rattle.io.specs.Counts.{IsPrefixLen}
+use Rattle.input.specs.Prefix.{IsPrefixLen}
 use Rattle.cells.specs.declared.refusal.Checked.{Checked}
 use Rattle.cells.specs.declared.refusal.Checked.TheVariants.{Good, Refused as RefusedBy}
 use Rattle.cells.specs.declared.refusal.Refusal.{Refusal}

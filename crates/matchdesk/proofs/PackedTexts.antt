@@ -5,7 +5,7 @@ use Prim.Native.Nat.{ℕ, ◌≤◌}
 use native.Mathlib.Omega.{arith}
 use borrow.Author.Tests.{le-leb}
 use lib.ListN.{length}
-use Rattle.io.specs.Counts.{IsPrefixLen}
+use Rattle.input.specs.Prefix.{IsPrefixLen}
 use Rattle.cells.specs.Check.{max_image}
 use Rattle.cells.specs.declared.refusal.Checked.{Checked}
 use Rattle.cells.specs.declared.refusal.Checked.TheVariants.{Good, Refused as RefusedBy}
@@ -17,7 +17,7 @@ use Rattle.packed.specs.Form.{packed}
 use Rattle.packed.specs.Reading.{Result, bytes, refused, ends, if_good, unpacked}
 use Rattle.packed.specs.Operations.{pack_result, unpack_result, answer_of, output_of, length_written, Done}
 use Rattle.packed.specs.declared.Packing.{Packing}
-use Rattle.packed.specs.declared.Packing.TheVariants.{Bytes, Refused}
+use Rattle.packed.specs.declared.Packing.TheVariants.{Bytes}
 use Rattle.packed.proofs.Lengths.{packed_shorter}
 use Rattle.packed.proofs.Undo.{packed-unpacked}
 use Rattle.matchdesk.specs.Program.{result_texts}

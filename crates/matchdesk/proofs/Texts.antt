@@ -6,7 +6,7 @@ use native.Mathlib.Omega.{arith}
 use borrow.Author.Tests.{le-leb}
 use lib.ListN.{length, take, drop}
 use lib.Seq.{length-take-le}
-use Rattle.io.specs.Counts.{IsPrefixLen}
+use Rattle.input.specs.Prefix.{IsPrefixLen}
 use Rattle.cells.specs.Cells.{cells}
 use Rattle.cells.specs.Check.{max_image}
 use Rattle.cells.specs.declared.refusal.Checked.{Checked}

@@ -6,8 +6,8 @@ mod product;
 
 ghost use Rattle.std.specs.Prelude.{◌≡◌, ◌≤◌, length, replicate};
 ghost use Rattle.cells.specs.Check.{max_image};
-ghost use Rattle.io.specs.Counts.{IsPrefixLen};
 ghost use Rattle.image.specs.SiteCheck.{site_answer};
+ghost use Rattle.input.specs.Prefix.{IsPrefixLen};
 ghost use Rattle.listing.specs.Promises.{TextWritten};
 ghost use Rattle.listing.specs.Text.{checked_text};
 ghost use Rattle.packed.specs.Operations.{length_written};
@@ -15,17 +15,20 @@ ghost use Rattle.pages.specs.Pages.{pages_text};
 ghost use Rattle.matchdesk.specs.Program.{asked_for, written, answer_text, answer_bytes, sealed_text, laid_text, program_texts, work_after};
 ghost use Rattle.matchdesk.specs.Promises.{length_of, Room, Fits, fault_text, Says};
 
+use cells::buffer;
 use cells::check::MAX_IMAGE;
 use cells::refusal::{Checked, Numbers};
 use crystalfold::rules::RuleSet;
 use input::Input;
-use libc::{STDERR_FILENO, STDOUT_FILENO};
+use input::report::fail;
+use input::words::{arg, arg_count, same};
 use listing::Listed;
 use packed::Packing;
 use pages::Paged;
 use passes::Rewrite;
 use product::{Chosen, Product};
 use sealing::Sealing;
+use std::rt::Env;
 
 // What the program can do: the text of a rewrite's answer, by a rule set, or of the rewrite until it rests; the rewritten image itself; the site
 // check; the image's pages; its packed form; of a packed form, the image; and the sealing check.
@@ -70,21 +73,25 @@ const NUMBER: usize = 64;
 // The number of the refusal where a packed form ends inside a cell or before a promised one.
 const ENDS: usize = 32;
 
-fn main() {
-    if os::arg_count() == 5 {
-        factor_job();
+fn main(rt: HostRuntime) {
+    let out = &rt.stdout();
+    let err = &rt.stderr();
+    if arg_count(&rt) == 5 {
+        factor_job(&rt, out, err);
         return;
     }
-    let asked = argument();
+    let asked = argument(&rt);
     let Asked::For(job) = asked else {
-        usage();
+        usage(err);
         return;
     };
     let mut buffer = input_buffer();
-    let input = input::read_to_end(&mut buffer, 0, MAX_IMAGE);
-    let Input::Bytes(n) = input else {
-        os::fail(b"standard input");
-        return;
+    let n = match input::read_to_end(&rt, &mut buffer, 0, MAX_IMAGE) {
+        Input::Bytes(n) => n,
+        Input::InputFailed(error) => {
+            fail(err, b"standard input", error);
+            return;
+        }
     };
     let mut work = work_buffer();
     let mut output = output_buffer();
@@ -92,26 +99,25 @@ fn main() {
     let said = run(job, &buffer[..n], &mut work, &mut output, &mut error);
     let a = said.output;
     let b = said.error;
-    say(&output[..a], &error[..b]);
+    say(out, err, &output[..a], &error[..b]);
 }
 
-fn usage() {
-    io::write_all(
-        STDERR_FILENO,
+fn usage(err: &impl Print) {
+    let _ = err.write_all(
         b"usage: matchdesk [rewrite | fuller | rest | bytes | check | seal | pages | pack] < image\n       matchdesk unpack < packed\n       matchdesk factor (fx | i32) WANTED FACTOR\n",
     );
 }
 
-fn say(output: &[u8], error: &[u8]) {
-    if !io::write_all(STDOUT_FILENO, output) {
-        os::fail(b"standard output");
+fn say(out: &impl Print, err: &impl Print, output: &[u8], error: &[u8]) {
+    if let Err(e) = out.write_all(output) {
+        fail(err, b"standard output", e);
     }
-    io::write_all(STDERR_FILENO, error);
+    let _ = err.write_all(error);
 }
 
 // The one argument; without any, the text of the rewrite's answer is asked for. No word is as long as the buffer.
-fn argument() -> Asked {
-    let n = os::arg_count();
+fn argument(rt: &impl Env) -> Asked {
+    let n = arg_count(rt);
     if n < 2 {
         return Asked::For(Job::Rewrite(RuleSet::Default));
     }
@@ -119,70 +125,70 @@ fn argument() -> Asked {
         return Asked::Unknown;
     }
     let mut word = [0u8; 16];
-    let m = os::arg(1, &mut word);
+    let m = arg(rt, 1, &mut word);
     job_of(&word[..m])
 }
 
 // The four arguments of `factor`. One that is longer than its buffer is answered as the empty word, which is no product and no number.
-fn factor_job() {
+fn factor_job(rt: &impl Env, out: &impl Print, err: &impl Print) {
     let mut word = [0u8; 16];
-    let m = os::arg(1, &mut word);
-    if !check::same(&word[..m], b"factor") {
-        usage();
+    let m = arg(rt, 1, &mut word);
+    if !same(&word[..m], b"factor") {
+        usage(err);
         return;
     }
     let mut name = [0u8; 16];
-    let n = os::arg(2, &mut name);
+    let n = arg(rt, 2, &mut name);
     let chosen = product::product_of(&name[..n]);
     let Chosen::By(product) = chosen else {
-        usage();
+        usage(err);
         return;
     };
-    find(product);
+    find(rt, out, err, product);
 }
 
 // The factor of a product, by the two words of numbers.
-fn find(product: Product) {
+fn find(rt: &impl Env, out: &impl Print, err: &impl Print, product: Product) {
     let mut wanted = [0u8; NUMBER];
-    let m = os::arg(3, &mut wanted);
+    let m = arg(rt, 3, &mut wanted);
     let mut factor = [0u8; NUMBER];
-    let n = os::arg(4, &mut factor);
+    let n = arg(rt, 4, &mut factor);
     let mut output = line_buffer();
     let mut error = line_buffer();
     let said = product::find_factor(product, &wanted[..m], &factor[..n], &mut output, &mut error);
     let a = said.output;
     let b = said.error;
-    say(&output[..a], &error[..b]);
+    say(out, err, &output[..a], &error[..b]);
 }
 
 fn job_of(word: &[u8]) -> Asked
     ensures { result ≡ asked_for word.now }
 {
-    if check::same(word, b"rewrite") {
+    if same(word, b"rewrite") {
         return Asked::For(Job::Rewrite(RuleSet::Default));
     }
-    if check::same(word, b"fuller") {
+    if same(word, b"fuller") {
         return Asked::For(Job::Rewrite(RuleSet::Fuller));
     }
-    if check::same(word, b"rest") {
+    if same(word, b"rest") {
         return Asked::For(Job::Rest);
     }
-    if check::same(word, b"bytes") {
+    if same(word, b"bytes") {
         return Asked::For(Job::Bytes);
     }
-    if check::same(word, b"check") {
+    if same(word, b"check") {
         return Asked::For(Job::Check);
     }
-    if check::same(word, b"pages") {
+    if same(word, b"pages") {
         return Asked::For(Job::Pages);
     }
-    if check::same(word, b"pack") {
+    if same(word, b"pack") {
         return Asked::For(Job::Pack);
     }
-    if check::same(word, b"unpack") {
+    if same(word, b"unpack") {
         return Asked::For(Job::Unpack);
     }
-    if check::same(word, b"seal") {
+    if same(word, b"seal") {
         return Asked::For(Job::Seal);
     }
     Asked::Unknown
@@ -254,7 +260,7 @@ fn answer_bytes(reply: Rewrite, work: &[u8], output: &mut [u8], error: &mut [u8]
 {
     match reply {
         Rewrite::Written(n, _) => Said {
-            output: bytes::copy(&work[..n], output),
+            output: buffer::copy(&work[..n], output),
             error: 0,
         },
         Rewrite::Refused(refusal) => Said {

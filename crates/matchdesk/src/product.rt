@@ -1,6 +1,6 @@
 // The other factor of a product, by words: `factor fx WANTED FACTOR` and `factor i32 WANTED FACTOR`.
 ghost use Rattle.std.specs.Prelude.{◌≡◌, ◌≤◌, length};
-ghost use Rattle.io.specs.Counts.{IsPrefixLen};
+ghost use Rattle.input.specs.Prefix.{IsPrefixLen};
 ghost use Rattle.listing.specs.Promises.{TextWritten};
 ghost use Rattle.matchdesk.specs.Program.{product_for, factor_by, found_text, factor_texts};
 ghost use Rattle.matchdesk.specs.Promises.{Says};
@@ -8,6 +8,7 @@ ghost use Rattle.matchdesk.specs.Promises.{Says};
 use crate::{Said, length_of};
 use cells::refusal::Numbers;
 use factor::{Factor, factor_fx, factor_i32};
+use input::words::same;
 use listing::{append, list_refused};
 use numbers::{Number, put_i32, read_i32};
 
@@ -31,10 +32,10 @@ const NO_FACTOR: usize = 36;
 pub fn product_of(word: &[u8]) -> Chosen
     ensures { result ≡ product_for word.now }
 {
-    if check::same(word, b"fx") {
+    if same(word, b"fx") {
         return Chosen::By(Product::Fx);
     }
-    if check::same(word, b"i32") {
+    if same(word, b"i32") {
         return Chosen::By(Product::I32);
     }
     Chosen::Neither
