@@ -1,8 +1,8 @@
 /*
  * Rewrites the image in one file to another: rewrite IN OUT
  *
- *   rt staticlib capi
- *   cc -O2 -Wall -I include examples/rewrite.c target/staticlib/libcapi.a -lm -o target/rewrite
+ *   (cd crates/capi && rt lib)
+ *   cc -O2 -Wall -I include examples/rewrite.c crates/capi/out/libcapi.a -lm -o target/rewrite
  *
  * Exit status: 0 OUT holds the rewritten image; 1 IN can't be read or OUT not written; 2 wrong use; 3 the image was refused. A refusal leaves
  * OUT alone.

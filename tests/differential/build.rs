@@ -7,7 +7,7 @@ use std::{env, fs};
 
 /// Both folders may be given absolutely or from the root of the repository.
 const DEFAULT_PASSES: &str = "../shared/docs/src/crates/sm-ir/src/passes";
-const DEFAULT_LIBRARY: &str = "target/staticlib";
+const DEFAULT_LIBRARY: &str = "crates/capi/out";
 
 fn main() {
     if let Err(missing) = prepare() {
@@ -37,7 +37,7 @@ fn prepare() -> Result<(), String> {
             "MATCHDESK_STATICLIB",
             DEFAULT_LIBRARY,
             &["libcapi.a"],
-            "make it at the root with `rt staticlib capi`, or name its folder in MATCHDESK_STATICLIB",
+            "make it with `rt lib` in `crates/capi`, or name its folder in MATCHDESK_STATICLIB",
         )?;
         println!("cargo:rustc-link-search=native={}", library.display());
         println!("cargo:rustc-link-lib=static=capi");
