@@ -4,7 +4,7 @@
     python3 tests/marks.py          from anywhere; prints the files by mark, and each that is marked wrongly
     python3 tests/marks.py --help
 
-A file is marked `-- Promise:` if the contracts of the exported operations or a claim (demand 3's, the program's texts, images joined, the rewrite until it rests, sealed images, releases, what became of a cell, the lines of pages, pages told apart, packing and unpacking undone, what a factor is) name it,
+A file is marked `-- Promise:` if the contracts of the exported operations or a claim (demand 3's, the program's texts, images joined, the rewrite until it rests, sealed images, releases, the lines of pages, pages told apart, packing and unpacking undone, what a factor is) name it,
 directly or through other files; `-- Inner:` if only the contracts of functions inside name it; `-- Worked:` if it is a table of cases, or serves
 such tables, and no contract names it. A file that only proofs use belongs in proofs/. The exit status is 0 if every mark is right, else 1.
 """
@@ -14,8 +14,8 @@ import sys
 
 ROOT = pathlib.Path(__file__).resolve().parent.parent / "crates"
 # where the exported operations stand, and the claims
-OPERATIONS = ["capi/src/lib.rt", "passes/src/lib.rt", "rest/src/lib.rt", "sealing/src/lib.rt", "release/src/lib.rt", "fates/src/lib.rt", "image/src/lib.rt", "listing/src/lib.rt", "pages/src/lib.rt", "packed/src/lib.rt", "factor/src/lib.rt"]
-CLAIM = [("rewrite", "Claim"), ("matchdesk", "Program"), ("matchdesk_release", "Program"), ("passes", "Joined"), ("rest", "Contracts"), ("sealing", "Claim"), ("release", "Claim"), ("fates", "Claim"), ("matchdesk_fate", "Program"), ("pages", "Apart"), ("pages", "LinePlaces"), ("packed", "Claim"), ("factor", "Claim")]
+OPERATIONS = ["capi/src/lib.rt", "passes/src/lib.rt", "rest/src/lib.rt", "sealing/src/lib.rt", "release/src/lib.rt", "image/src/lib.rt", "listing/src/lib.rt", "pages/src/lib.rt", "packed/src/lib.rt", "factor/src/lib.rt"]
+CLAIM = [("rewrite", "Claim"), ("matchdesk", "Program"), ("matchdesk_release", "Program"), ("passes", "Joined"), ("rest", "Contracts"), ("sealing", "Claim"), ("release", "Claim"), ("pages", "Apart"), ("pages", "LinePlaces"), ("packed", "Claim"), ("factor", "Claim")]
 MARKS = ("Promise", "Inner", "Worked")
 USE = re.compile(r"use\s+Rattle·(\w+?)(?:·specs)?\.specs\.(\w+)\.\{([^}]*)\}")
 

@@ -1,12 +1,9 @@
 //! Times the original's `run_default_opt_passes` and, with the feature `library`,
 //! the proved rewrites and pages on the same images, in one process; the proved packed form beside
 //! the image check; the proved sealing check beside the site check; the proved rewrite of a release
-//! beside the rewrites of its images; what became of a cell, beside the site check; and the proved
-//! factors.
+//! beside the rewrites of its images; and the proved factors.
 
 mod factors;
-#[cfg(feature = "library")]
-mod fates;
 mod images;
 #[cfg(feature = "library")]
 mod packed;
@@ -30,8 +27,7 @@ const TIME: Duration = Duration::from_millis(400);
 
 const USAGE: &str = "\
 usage: [--milliseconds N], or with the library: --packed [--milliseconds N],
-       --sealing [--milliseconds N], --release [--milliseconds N], --fates [--milliseconds N],
-       --search [sealing] SEED SECONDS";
+       --sealing [--milliseconds N], --release [--milliseconds N], --search [sealing] SEED SECONDS";
 
 fn wrong_use() -> ! {
     eprintln!("{USAGE}");
@@ -59,11 +55,6 @@ fn main() -> ExitCode {
         }
         #[cfg(feature = "library")]
         ["--release", rest @ ..] => release::rows(time(rest)),
-        #[cfg(feature = "library")]
-        ["--fates", rest @ ..] => {
-            fates::rows(time(rest));
-            true
-        }
         words => all(time(words)),
     };
     ExitCode::from(!hold as u8)
