@@ -15,15 +15,17 @@ import sys
 ROOT = pathlib.Path(__file__).resolve().parent.parent / "crates"
 # where the exported operations stand, and the claims
 OPERATIONS = ["capi/src/lib.rt", "passes/src/lib.rt", "rest/src/lib.rt", "sealing/src/lib.rt", "release/src/lib.rt", "image/src/lib.rt", "listing/src/lib.rt", "pages/src/lib.rt", "packed/src/lib.rt", "factor/src/lib.rt"]
-CLAIM = [("rewrite", "Claim"), ("matchdesk", "Program"), ("matchdesk_release", "Program"), ("passes", "Joined"), ("rest", "Contracts"), ("sealing", "Claim"), ("release", "Claim"), ("pages", "Apart"), ("pages", "LinePlaces"), ("packed", "Claim"), ("factor", "Claim")]
+CLAIM = [("rewrite", "Claim"), ("matchdesk", "Program"), ("matchdesk_release", "Program"), ("passes", "Joined"), ("rest", "Promises"), ("sealing", "Claim"), ("release", "Claim"), ("pages", "Apart"), ("pages", "LinePlaces"), ("packed", "Claim"), ("factor", "Claim")]
+# what no program and no exported operation reaches yet
+UNFINISHED = ("fates",)
 MARKS = ("Promise", "Inner", "Worked")
-USE = re.compile(r"use\s+Rattle·(\w+?)(?:·specs)?\.specs\.(\w+)\.\{([^}]*)\}")
+USE = re.compile(r"use\s+Rattle\.(\w+)\.specs\.(\w+)\.\{([^}]*)\}")
 
 
 def uses(text):
     """The imports of spec files: (crate, file) and the names they bring."""
     for crate, name, items in USE.findall(text):
-        if name != "declared":
+        if name != "declared" and (ROOT / crate).is_dir():
             names = [re.split(r"\s+as\s+", item.strip())[-1].strip("«»") for item in items.split(",")]
             yield (crate, name), names
 
@@ -52,7 +54,7 @@ def main():
     texts = {
         (path.parent.parent.name, path.stem): path.read_text()
         for path in sorted(ROOT.glob("*/specs/*.antt"))
-        if path.stem != "Lib"
+        if path.stem != "Lib" and path.parent.parent.name not in UNFINISHED
     }
     imports = {file: [used for used, _ in uses(text)] for file, text in texts.items()}
     promised = list(CLAIM)

@@ -1,4 +1,4 @@
--- What a function promises of a length that it returns, of what stands at the start of a buffer.
+-- Inner: what a function promises of a length that it returns, of what stands at the start of a buffer.
 use Rattle.std.specs.Prelude.{◌≡◌, ℕ, ◌≤◌, List, length, take}
 
 -- `&xs[..n]` is in bounds and has n bytes. The second part follows from the first, and spares a caller's `&buf[..n]` a proof file.
