@@ -4,7 +4,7 @@
  * product.
  *
  * Library: crates/capi/out/libcapi.a for Linux on x86-64, made by `rt lib` in `crates/capi`. Every function is proved to meet its contract
- * (crates/capi/specs/Contracts.antt), for images and releases of all bytes and lengths, outputs of all lengths and all numbers.
+ * (crates/capi/specs/Promises.antt), for images and releases of all bytes and lengths, outputs of all lengths and all numbers.
  *
  * What a caller must see to, and no proof covers:
  *
