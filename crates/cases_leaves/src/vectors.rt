@@ -33,7 +33,7 @@ pub fn start<R: Files + Print>(rt: &R) -> io::Result<()> {
 }
 
 // A proved loop has to end, and nothing says that the file does: so the loop has a number of turns that no run uses up.
-fn run<F: Read + Drop>(rt: &impl Print, mut file: F) -> io::Result<()> {
+pub fn run<F: Read + Drop>(rt: &impl Print, mut file: F) -> io::Result<()> {
     let mut group = [b' '; LINE];
     let mut passed: u64 = 0;
     for _ in 0..u64::MAX {
