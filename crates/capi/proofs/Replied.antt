@@ -25,7 +25,7 @@ use Rattle.passes.specs.declared.Pass.{Pass}
 use Rattle.crystalfold.specs.declared.rules.RuleSet.{RuleSet}
 use Rattle.passes.specs.declared.Rewrite.{Rewrite}
 use Rattle.passes.specs.declared.Rewrite.TheVariants.{Written, Refused}
-use Rattle.release.specs.Promises.{is_written as isReleased, ReleaseDone}
+use Rattle.release.specs.Promises.{is_written as is_released, ReleaseDone}
 use Rattle.release.specs.declared.Released.{Released}
 use Rattle.release.specs.declared.Released.TheVariants.{Written as WrittenRelease, Refused as RefusedRelease}
 use Rattle.rest.specs.Promises.{RestDone}
@@ -82,7 +82,7 @@ rewrite_zero : (r : Rewrite) → ((rewrite_reply r).number ≡ 0) ↔ (is_writte
 rewrite_zero (Written n report) = ((λ e. refl), (λ e. refl))
 rewrite_zero (Refused x) = ((λ e. absurd (refused x e)), (λ e. absurd (true≢false (sym e))))
 
-release_zero : (r : Released) → ((release_reply r).number ≡ 0) ↔ (isReleased r ≡ true)
+release_zero : (r : Released) → ((release_reply r).number ≡ 0) ↔ (is_released r ≡ true)
 release_zero (WrittenRelease n) = ((λ e. refl), (λ e. refl))
 release_zero RefusedRelease = ((λ e. absurd (omega (arith, e))), (λ e. absurd (true≢false (sym e))))
 

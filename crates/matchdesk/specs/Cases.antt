@@ -28,7 +28,7 @@ use Rattle.listing.specs.Text.{cell_line, rewrites_line, rewritten_text, refused
 use Rattle.packed.specs.Form.{row_size, packed}
 use Rattle.packed.specs.Reading.{read_cell, unpack_from, unpacked}
 use Rattle.packed.specs.Operations.{pack_result}
-use Rattle.pages.specs.Pages.{heading, cell_line as pageLine, page_lines, pages_text}
+use Rattle.pages.specs.Pages.{heading, cell_line as page_line, page_lines, pages_text}
 use Rattle.rest.specs.Rounds.{rest_bytes, rest_count, rest_answer}
 use Rattle.sealing.specs.Sealing.{numbering_answer, sealing_answer}
 use Rattle.numbers.specs.Numbers.{number_in}
@@ -246,7 +246,7 @@ cases =
     ∷ []
 
 pub worked : map (λ (c : ProgramCase). case c.argument c.input (done_for (asked_for c.argument) c.input)) cases ≡ cases
-unfolding numbering_answer sealing_answer done_for example rewritten overwritten quads zeros apart beyond sited example_packed sited_packed unpaired unpaired_packed made promising good refused count cases asked_for program_texts pass_answer pass_bytes pass_check pass_count rest_answer rest_bytes rest_count site_answer image_answer functions instruction_check event_check head_check rows site_of event_site site_by repeat_answer activation_answer judge_by clean_code clean_count clean_events clean_function fold_code folds_of fold_function default_rules default_table fuller_rules fuller_table note view load_cell quad_of class_of wrap add_i32 decimal rewrites_line rewritten_text refused_text refusal_text good_text float_of bits_of div_f64 Ieee.eq Ieee.div Ieee.of_bits Ieee.to_bits pages_text page_lines heading pageLine command_names event_names pack_result packed row_size unpacked unpack_from read_cell
+unfolding numbering_answer sealing_answer done_for example rewritten overwritten quads zeros apart beyond sited example_packed sited_packed unpaired unpaired_packed made promising good refused count cases asked_for program_texts pass_answer pass_bytes pass_check pass_count rest_answer rest_bytes rest_count site_answer image_answer functions instruction_check event_check head_check rows site_of event_site site_by repeat_answer activation_answer judge_by clean_code clean_count clean_events clean_function fold_code folds_of fold_function default_rules default_table fuller_rules fuller_table note view load_cell quad_of class_of wrap add_i32 decimal rewrites_line rewritten_text refused_text refusal_text good_text float_of bits_of div_f64 Ieee.eq Ieee.div Ieee.of_bits Ieee.to_bits pages_text page_lines heading page_line command_names event_names pack_result packed row_size unpacked unpack_from read_cell
 worked = refl
 
 -- ---- the words of products

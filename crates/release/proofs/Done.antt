@@ -15,7 +15,7 @@ use Rattle.cells.specs.Check.{max_image}
 use Rattle.cells.proofs.Facts.{by_test}
 use Rattle.cells.proofs.Over.{over-take}
 use Rattle.crystalfold.specs.declared.rules.RuleSet.TheVariants.{Default}
-use Rattle.passes.specs.Promises.{RewriteDone, length_written as lengthAlone}
+use Rattle.passes.specs.Promises.{RewriteDone, length_written as length_alone}
 use Rattle.passes.specs.declared.Pass.TheVariants.{Both}
 use Rattle.passes.specs.declared.Rewrite.{Rewrite}
 use Rattle.passes.proofs.Done.{pass_done, rewrite_done}
@@ -34,10 +34,10 @@ module _ (i : Image) (lent : List ℕ) (h : length i ≤ length lent) where
   alone_done : RewriteDone Default i lent (output_alone i lent) (answer_alone i lent)
   alone_done = rewrite_done Default i lent (output_alone i lent) (answer_alone i lent) (pass_done (Both Default) i lent (output_alone i lent) (answer_alone i lent) refl refl)
 
-  alone-bytes : handed_back i ≡ take (lengthAlone (answer_alone i lent)) (output_alone i lent)
+  alone-bytes : handed_back i ≡ take (length_alone (answer_alone i lent)) (output_alone i lent)
   alone-bytes =
       let m : min (length i) max_image ≤ length lent = omega arith in
-      sym (ap₂ (λ (n : ℕ) (u : List ℕ). take n u) (ap lengthAlone (same_answer i lent m) ∙ back_length i) (same-output i lent m) ∙ over-take (handed_back i) lent)
+      sym (ap₂ (λ (n : ℕ) (u : List ℕ). take n u) (ap length_alone (same_answer i lent m) ∙ back_length i) (same-output i lent m) ∙ over-take (handed_back i) lent)
 
   as_alone : AsAlone i (handed_back i) (answer_to i) lent
   as_alone = record {

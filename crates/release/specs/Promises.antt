@@ -9,7 +9,7 @@ use Rattle.cells.specs.declared.refusal.Numbers.{Numbers}
 use Rattle.crystalfold.specs.Rules.{rules_of}
 use Rattle.crystalfold.specs.declared.rules.RuleSet.TheVariants.{Default}
 use Rattle.rewrite.specs.Claim.{Rewritten}
-use Rattle.passes.specs.Promises.{Each, RewriteDone, is_written as isWrittenAlone, length_written as lengthAlone}
+use Rattle.passes.specs.Promises.{Each, RewriteDone, is_written as is_written_alone, length_written as length_alone}
 use Rattle.passes.specs.Passes.{pass_answer, pass_output}
 use Rattle.passes.specs.declared.Pass.TheVariants.{Both}
 use Rattle.passes.specs.declared.Rewrite.{Rewrite}
@@ -56,9 +56,9 @@ pub record AsAlone (i back answer lent : List ℕ) : Type 0 where
   -- its numbers
   pub numbers : answer ≡ three_numbers (numbers_as (answer_alone i lent))
   -- what it wrote, of a refused image nothing
-  pub bytes : back ≡ take (lengthAlone (answer_alone i lent)) (output_alone i lent)
+  pub bytes : back ≡ take (length_alone (answer_alone i lent)) (output_alone i lent)
   -- demand 3: each function handed back records what the one sent at its position does
-  pub records : isWrittenAlone (answer_alone i lent) ≡ true → Each (Rewritten (rules_of Default)) (functions (cells i)) (functions (cells back))
+  pub records : is_written_alone (answer_alone i lent) ≡ true → Each (Rewritten (rules_of Default)) (functions (cells i)) (functions (cells back))
 
 -- the images of a release and what was written to the two buffers: as many are handed back, each behind its length, and each image's part is its own,
 -- whatever is lent to the rewrite of it alone, as long as the image or longer

@@ -26,7 +26,7 @@ abbrev pub rounds_behind : RuleSet → ℕ → ℕ → List ℕ → ℕ
 rounds_behind k n zero s = n
 rounds_behind k n (suc m) s = cond (eqb (reported k n s) 0) (suc n) (rounds_behind k (suc n) m s)
 
--- three are always enough: where no earlier one does, the third reports 0 (`WithinThree`, Contracts.antt)
+-- three are always enough: where no earlier one does, the third reports 0 (`WithinThree`, Promises.antt)
 abbrev pub rounds_to_rest : RuleSet → List ℕ → ℕ
 rounds_to_rest k s = rounds_behind k 0 3 s
 
