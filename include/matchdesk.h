@@ -3,7 +3,7 @@
  * rewrite until it rests, the rewrite of a whole release, the sealing check, the pages and the packed form of an image, and the other factor of a
  * product.
  *
- * Library: crates/capi/out/libcapi.a for Linux on x86-64, made by `rt lib` in `crates/capi`. Every function is proved to meet its contract
+ * Library: crates/capi/out/libcapi.a for Linux on x86-64 (x86-64-v2), made by `rt lib` in `crates/capi`. Every function is proved to meet its contract
  * (crates/capi/specs/Promises.antt), for images and releases of all bytes and lengths, outputs of all lengths and all numbers.
  *
  * What a caller must see to, and no proof covers:
