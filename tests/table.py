@@ -119,15 +119,15 @@ def names(text, name):
 def difference_of_names(rust, kinds, table):
     """A difference of the names, if there is one."""
     want = list(enumerate([""] + sum(commands(rust), [])))
-    for row, have in zip(want, names(table, "commandNames")):
+    for row, have in zip(want, names(table, "command_names")):
         if row != have:
             return f"the Rust text has the command {row}, the names {have}"
-    if len(names(table, "commandNames")) != len(want):
-        return f"{len(names(table, 'commandNames'))} names of commands"
+    if len(names(table, "command_names")) != len(want):
+        return f"{len(names(table, 'command_names'))} names of commands"
     if sorted(set(re.findall(r"OwnershipPathEventKind::(\w+)", kinds))) != sorted(KINDS):
         return "the Rust text has other kinds of events"
-    if names(table, "eventNames") != list(enumerate(KINDS)):
-        return f"the kinds of events are {names(table, 'eventNames')}"
+    if names(table, "event_names") != list(enumerate(KINDS)):
+        return f"the kinds of events are {names(table, 'event_names')}"
     return None
 
 
