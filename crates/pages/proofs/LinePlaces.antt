@@ -148,4 +148,4 @@ module _ (f : Function) where
       function_at_lem k (length (new_page (name_in f) k)) (k + k / 49 + 1) h (omega arith) (omega (arith, page_more (name_in f) k, some_pages (k + 1) (omega arith))) ∙ entry_last k
 
 pub functions_laid_out : FunctionsLaidOut
-functions_laid_out f = record { lines = count_function f; headings = headings f; cell_lines_lem = cell_lines_lem f }
+functions_laid_out f = record { lines = count_function f; headings = headings f; cell_lines = cell_lines_lem f }

@@ -15,7 +15,7 @@ pub record LaidOut (f : Function) : Type 0 where
   -- a page takes 50 lines, of which the first is its heading, with the page's number
   pub headings : (p : ℕ) → p < pages_of (there f) → get_or (function_lines f) (50 * p) [] ≡ heading (name_in f) (p + 1)
   -- before a cell stand those before it, and the headings of its page and of those before
-  pub cell_lines_lem : (k : ℕ) → k < there f → get_or (function_lines f) (k + k / 49 + 1) [] ≡ line_of f k
+  pub cell_lines : (k : ℕ) → k < there f → get_or (function_lines f) (k + k / 49 + 1) [] ≡ line_of f k
 
 abbrev pub FunctionsLaidOut : Type 0
 FunctionsLaidOut = (f : Function) → LaidOut f
