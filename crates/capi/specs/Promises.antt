@@ -1,6 +1,6 @@
 -- Promise: what the operations promise: s is the image, `before` and `after` are what the lent output holds at entry and at exit, `number` is the
 -- value returned, and `first` and `second` are what stands behind the two references at exit.
-use Rattle.std.specs.Prelude.{ℕ, ◌≤◌, ◌≡◌, ◌↔◌, List, ℤ, length}
+use Rattle.std.specs.Prelude.{ℕ, ◌≤◌, ◌≡◌, ◌↔◌, List, ℤ, length, Option}
 use Rattle.image.specs.Image.{image_answer, GoodImage}
 use Rattle.image.specs.SiteCheck.{site_answer, SitesPass}
 use Rattle.pages.specs.Pages.{pages_text}
@@ -19,10 +19,9 @@ use Rattle.sealing.specs.Sealing.{sealing_answer}
 use Rattle.rest.specs.Rounds.{rest_answer}
 use Rattle.crystalfold.specs.declared.rules.RuleSet.{RuleSet}
 use Rattle.factor.specs.Claim.{IsFactor, Nearest}
-use Rattle.factor.specs.declared.Factor.{Factor}
 use Rattle.leaves.specs.declared.constant.ConstVal.{ConstVal}
-use Rattle.leaves.specs.declared.verdict.Verdict.{Verdict}
 use Rattle.capi.specs.Replies.{three, check_reply, sealing_reply, rewrite_reply, release_reply, pages_reply, packing_reply, two, factor_reply}
+use Rattle.leaves.specs.Verdict.{Verdict}
 
 pub record ImageReplied (s : List ℕ) (number first second : ℕ) : Type 0 where
   pub reply : three number first second ≡ check_reply (image_answer s)
@@ -87,7 +86,7 @@ pub record UnpackReplied (s before after : List ℕ) (number first second : ℕ)
 
 -- the other factor: of a leaf's product, a wanted value as that leaf has it, a factor and the answer r; `other` is what stands behind the reference
 -- at exit
-pub record FactorReplied (product : ℤ → ℤ → Verdict) (wanted : ConstVal) (factor : ℤ) (r : Factor) (number : ℕ) (other : ℤ) : Type 0 where
+pub record FactorReplied (product : ℤ → ℤ → Verdict) (wanted : ConstVal) (factor : ℤ) (r : Option ℤ) (number : ℕ) (other : ℤ) : Type 0 where
   pub reply : two number other ≡ factor_reply r
   -- 0 exactly if some i32 is a factor, and then `other` is the one nearest zero, of two equally near the positive one
   pub accepted : (number ≡ 0) ↔ ((x : ℤ) × IsFactor product wanted factor x)

@@ -8,17 +8,14 @@ ghost use Rattle.factor.specs.Factor.{factor_fx, factor_i32};
 ghost use Rattle.leaves.specs.Fixed.{mul_fx};
 ghost use Rattle.leaves.specs.Signed.{mul_i32};
 ghost use Rattle.leaves.specs.declared.constant.ConstVal.TheVariants.{I32, Fx};
-ghost use Rattle.capi.specs.Replies.{refusal_reply, check_reply, rewrite_reply, release_reply, sealing_reply, pages_reply, packing_reply, factor_reply};
+ghost use Rattle.capi.specs.Replies.{three, two, check_reply, rewrite_reply, release_reply, sealing_reply, pages_reply, packing_reply, factor_reply};
 ghost use Rattle.capi.specs.Promises.{ImageReplied, SitesReplied, SealingReplied, PassReplied, RewriteReplied, RestReplied, ReleaseReplied, PagesReplied, PackReplied, UnpackReplied, FactorReplied};
 
-use cells::refusal;
-use cells::refusal::Checked;
-use factor::Factor;
-use packed::Packing;
-use pages::Paged;
-use passes::Rewrite;
-use release::Released;
-use sealing::Sealing;
+use cells::refusal::{Numbers, Refusal};
+use packed::PackingError;
+use pages::PagesError;
+use passes::Written;
+use sealing::SealingError;
 
 // An answer in three numbers: 0 or the refusal's number, then two more.
 #[derive(Clone, Copy)]
@@ -28,11 +25,42 @@ pub struct Reply {
     pub second: usize,
 }
 
+impl Reply {
+    fn new(number: usize, first: usize, second: usize) -> Reply
+        ensures { result ≡ three number first second }
+    {
+        Reply {
+            number,
+            first,
+            second,
+        }
+    }
+
+    // The number; the other two are written through the references.
+    fn give(self, first: &mut usize, second: &mut usize) -> usize
+        ensures { three result first.new second.new ≡ self }
+    {
+        *first = self.first;
+        *second = self.second;
+        self.number
+    }
+}
+
 // Whether there is a factor: 0 and the factor; or 36 and 0.
 #[derive(Clone, Copy)]
 pub struct FactorReply {
     pub number: usize,
     pub other: i32,
+}
+
+impl FactorReply {
+    // The number; the factor is written through the reference.
+    fn give(self, other: &mut i32) -> usize
+        ensures { two result other.new ≡ self }
+    {
+        *other = self.other;
+        self.number
+    }
 }
 
 // The image check: 0, or the refusal's number.
@@ -44,10 +72,7 @@ pub extern "C" fn matchdesk_image_check(
 ) -> usize
     ensures { ImageReplied image.now result position.new detail.new }
 {
-    let r = reply_of_check(image::image_check(image));
-    *position = r.first;
-    *detail = r.second;
-    r.number
+    Reply::from(image::image_check(image)).give(position, detail)
 }
 
 // The site check: 0, or the refusal's number.
@@ -59,10 +84,7 @@ pub extern "C" fn matchdesk_site_check(
 ) -> usize
     ensures { SitesReplied image.now result position.new detail.new }
 {
-    let r = reply_of_check(image::site_check(image));
-    *position = r.first;
-    *detail = r.second;
-    r.number
+    Reply::from(image::site_check(image)).give(position, detail)
 }
 
 // The sealing check: 0, or the refusal's number.
@@ -74,10 +96,7 @@ pub extern "C" fn matchdesk_sealing_check(
 ) -> usize
     ensures { SealingReplied image.now result position.new detail.new }
 {
-    let r = reply_of_sealing(sealing::sealing_check(image));
-    *position = r.first;
-    *detail = r.second;
-    r.number
+    Reply::from(sealing::sealing_check(image)).give(position, detail)
 }
 
 // Cleanup: 0, the length written and the count of rewrites; or the refusal's number, position and detail.
@@ -90,10 +109,7 @@ pub extern "C" fn matchdesk_cleanup(
 ) -> usize
     ensures { PassReplied Cleanup image.now out.old out.new result first.new second.new }
 {
-    let r = reply_of_rewrite(passes::cleanup(image, out));
-    *first = r.first;
-    *second = r.second;
-    r.number
+    Reply::from(passes::cleanup(image, out)).give(first, second)
 }
 
 // CrystalFold, answered as cleanup.
@@ -106,10 +122,7 @@ pub extern "C" fn matchdesk_crystalfold(
 ) -> usize
     ensures { PassReplied (CrystalFold Default) image.now out.old out.new result first.new second.new }
 {
-    let r = reply_of_rewrite(passes::crystalfold(image, out));
-    *first = r.first;
-    *second = r.second;
-    r.number
+    Reply::from(passes::crystalfold(image, out)).give(first, second)
 }
 
 // The whole rewrite, answered as cleanup.
@@ -122,10 +135,7 @@ pub extern "C" fn matchdesk_rewrite(
 ) -> usize
     ensures { RewriteReplied Default image.now out.old out.new result first.new second.new }
 {
-    let r = reply_of_rewrite(passes::run_default_opt_passes(image, out));
-    *first = r.first;
-    *second = r.second;
-    r.number
+    Reply::from(passes::run_default_opt_passes(image, out)).give(first, second)
 }
 
 // The fuller rewrite, answered as cleanup.
@@ -138,10 +148,7 @@ pub extern "C" fn matchdesk_rewrite_fuller(
 ) -> usize
     ensures { RewriteReplied Fuller image.now out.old out.new result first.new second.new }
 {
-    let r = reply_of_rewrite(passes::run_fuller_opt_passes(image, out));
-    *first = r.first;
-    *second = r.second;
-    r.number
+    Reply::from(passes::run_fuller_opt_passes(image, out)).give(first, second)
 }
 
 // The default rewrite until it rests: 0, the last round's length and the sum of the counts; or the refusal's number, position and detail.
@@ -154,10 +161,7 @@ pub extern "C" fn matchdesk_rewrite_until_rest(
 ) -> usize
     ensures { RestReplied Default image.now out.old out.new result first.new second.new }
 {
-    let r = reply_of_rewrite(rest::rewrite_until_rest(image, out));
-    *first = r.first;
-    *second = r.second;
-    r.number
+    Reply::from(rest::rewrite_until_rest(image, out)).give(first, second)
 }
 
 // A whole release: 0, the length written to the output and 0; or 33 and zeros.
@@ -171,10 +175,7 @@ pub extern "C" fn matchdesk_rewrite_release(
 ) -> usize
     ensures { ReleaseReplied release.now out.old out.new answers.old answers.new result first.new second.new }
 {
-    let r = reply_of_release(release::rewrite_release(release, out, answers));
-    *first = r.first;
-    *second = r.second;
-    r.number
+    Reply::from(release::rewrite_release(release, out, answers)).give(first, second)
 }
 
 // Pages: 0, the length written and 0; or the refusal's number, position and detail.
@@ -187,10 +188,7 @@ pub extern "C" fn matchdesk_pages(
 ) -> usize
     ensures { PagesReplied image.now out.old out.new result first.new second.new }
 {
-    let r = reply_of_pages(pages::pages(image, out));
-    *first = r.first;
-    *second = r.second;
-    r.number
+    Reply::from(pages::pages(image, out)).give(first, second)
 }
 
 // The packed form of an image, answered as pages.
@@ -203,10 +201,7 @@ pub extern "C" fn matchdesk_pack(
 ) -> usize
     ensures { PackReplied image.now out.old out.new result first.new second.new }
 {
-    let r = reply_of_packing(packed::pack(image, out));
-    *first = r.first;
-    *second = r.second;
-    r.number
+    Reply::from(packed::pack(image, out)).give(first, second)
 }
 
 // The image of a packed form, answered as pages.
@@ -219,10 +214,7 @@ pub extern "C" fn matchdesk_unpack(
 ) -> usize
     ensures { UnpackReplied packed.now out.old out.new result first.new second.new }
 {
-    let r = reply_of_packing(packed::unpack(packed, out));
-    *first = r.first;
-    *second = r.second;
-    r.number
+    Reply::from(packed::unpack(packed, out)).give(first, second)
 }
 
 // The other factor of a MulFx: 0 and the factor; or 36 and 0.
@@ -230,10 +222,7 @@ pub extern "C" fn matchdesk_unpack(
 pub extern "C" fn matchdesk_factor_fx(wanted: i32, factor: i32, other: &mut i32) -> usize
     ensures { FactorReplied mul_fx (Fx wanted) factor (factor_fx wanted factor) result other.new }
 {
-    let r = reply_of_factor(factor::factor_fx(wanted, factor));
-    let x = r.other;
-    *other = x;
-    r.number
+    FactorReply::from(factor::factor_fx(wanted, factor)).give(other)
 }
 
 // The other factor of a MulI32, answered as that of a MulFx.
@@ -241,131 +230,100 @@ pub extern "C" fn matchdesk_factor_fx(wanted: i32, factor: i32, other: &mut i32)
 pub extern "C" fn matchdesk_factor_i32(wanted: i32, factor: i32, other: &mut i32) -> usize
     ensures { FactorReplied mul_i32 (I32 wanted) factor (factor_i32 wanted factor) result other.new }
 {
-    let r = reply_of_factor(factor::factor_i32(wanted, factor));
-    let x = r.other;
-    *other = x;
-    r.number
+    FactorReply::from(factor::factor_i32(wanted, factor)).give(other)
 }
 
-fn reply_of_refusal(x: refusal::Refusal) -> Reply
-    ensures { result ≡ refusal_reply x }
-{
-    let n = refusal::numbers_of(x);
-    Reply {
-        number: n.number,
-        first: n.position,
-        second: n.detail,
+// ---- answers as numbers
+
+impl From<Numbers> for Reply {
+    ghost from_gives = { λ n reply. reply ≡ three n.number n.position n.detail };
+
+    fn from(n: Numbers) -> Reply {
+        Reply {
+            number: n.number,
+            first: n.position,
+            second: n.detail,
+        }
     }
 }
 
-fn reply_of_check(c: Checked) -> Reply
-    ensures { result ≡ check_reply c }
-{
-    match c {
-        Checked::Good => Reply {
-            number: 0,
-            first: 0,
-            second: 0,
-        },
-        Checked::Refused(x) => reply_of_refusal(x),
+impl From<Result<(), Refusal>> for Reply {
+    ghost from_gives = { λ answer reply. reply ≡ check_reply answer };
+
+    fn from(answer: Result<(), Refusal>) -> Reply {
+        match answer {
+            Ok(()) => Reply::new(0, 0, 0),
+            Err(refusal) => Reply::from(Numbers::from(refusal)),
+        }
     }
 }
 
-fn reply_of_sealing(c: Sealing) -> Reply
-    ensures { result ≡ sealing_reply c }
-{
-    match c {
-        Sealing::Good => Reply {
-            number: 0,
-            first: 0,
-            second: 0,
-        },
-        Sealing::Refused(x) => reply_of_refusal(x),
-        Sealing::Repeated(w, position, x) => Reply {
-            number: sealing::repeat_number(w),
-            first: position,
-            second: x,
-        },
+impl From<Result<(), SealingError>> for Reply {
+    ghost from_gives = { λ answer reply. reply ≡ sealing_reply answer };
+
+    fn from(answer: Result<(), SealingError>) -> Reply {
+        match answer {
+            Ok(()) => Reply::new(0, 0, 0),
+            Err(error) => Reply::from(Numbers::from(error)),
+        }
     }
 }
 
-fn reply_of_rewrite(w: Rewrite) -> Reply
-    ensures { result ≡ rewrite_reply w }
-{
-    match w {
-        Rewrite::Written(n, report) => Reply {
-            number: 0,
-            first: n,
-            second: report.num_rewrites,
-        },
-        Rewrite::Refused(x) => reply_of_refusal(x),
+impl From<Result<Written, Refusal>> for Reply {
+    ghost from_gives = { λ answer reply. reply ≡ rewrite_reply answer };
+
+    fn from(answer: Result<Written, Refusal>) -> Reply {
+        match answer {
+            Ok(written) => Reply::new(0, written.length, written.report.num_rewrites),
+            Err(refusal) => Reply::from(Numbers::from(refusal)),
+        }
     }
 }
 
-fn reply_of_release(w: Released) -> Reply
-    ensures { result ≡ release_reply w }
-{
-    match w {
-        Released::Written(n) => Reply {
-            number: 0,
-            first: n,
-            second: 0,
-        },
-        Released::Refused => Reply {
-            number: 33,
-            first: 0,
-            second: 0,
-        },
+// A release's: the length, or none.
+impl From<Option<usize>> for Reply {
+    ghost from_gives = { λ answer reply. reply ≡ release_reply answer };
+
+    fn from(answer: Option<usize>) -> Reply {
+        match answer {
+            Some(length) => Reply::new(0, length, 0),
+            None => Reply::new(release::REFUSAL, 0, 0),
+        }
     }
 }
 
-fn reply_of_pages(w: Paged) -> Reply
-    ensures { result ≡ pages_reply w }
-{
-    match w {
-        Paged::Laid(n) => Reply {
-            number: 0,
-            first: n,
-            second: 0,
-        },
-        Paged::Refused(x) => reply_of_refusal(x),
-        Paged::TooShort => Reply {
-            number: 30,
-            first: 0,
-            second: 0,
-        },
+impl From<Result<usize, PagesError>> for Reply {
+    ghost from_gives = { λ answer reply. reply ≡ pages_reply answer };
+
+    fn from(answer: Result<usize, PagesError>) -> Reply {
+        match answer {
+            Ok(length) => Reply::new(0, length, 0),
+            Err(error) => Reply::from(Numbers::from(error)),
+        }
     }
 }
 
-fn reply_of_packing(w: Packing) -> Reply
-    ensures { result ≡ packing_reply w }
-{
-    match w {
-        Packing::Bytes(n) => Reply {
-            number: 0,
-            first: n,
-            second: 0,
-        },
-        Packing::Refused(x) => reply_of_refusal(x),
-        Packing::Ends(position, cell) => Reply {
-            number: 32,
-            first: position,
-            second: cell,
-        },
+impl From<Result<usize, PackingError>> for Reply {
+    ghost from_gives = { λ answer reply. reply ≡ packing_reply answer };
+
+    fn from(answer: Result<usize, PackingError>) -> Reply {
+        match answer {
+            Ok(length) => Reply::new(0, length, 0),
+            Err(error) => Reply::from(Numbers::from(error)),
+        }
     }
 }
 
-fn reply_of_factor(f: Factor) -> FactorReply
-    ensures { result ≡ factor_reply f }
-{
-    match f {
-        Factor::Found(x) => FactorReply {
-            number: 0,
-            other: x,
-        },
-        Factor::NoFactor => FactorReply {
-            number: 36,
-            other: 0,
-        },
+impl From<Option<i32>> for FactorReply {
+    ghost from_gives = { λ answer reply. reply ≡ factor_reply answer };
+
+    fn from(answer: Option<i32>) -> FactorReply {
+        match answer {
+            Some(other) => FactorReply { number: 0, other },
+            None => FactorReply {
+                number: factor::REFUSAL,
+                other: 0,
+            },
+        }
     }
 }

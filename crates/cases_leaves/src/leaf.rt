@@ -2,24 +2,50 @@
 ghost use Rattle.std.specs.Prelude.{◌≡◌, ◌%◌};
 ghost use Rattle.cases_leaves.specs.Leaves.{u32_of, i32_of, quad_at, constant_of, of_verdict, reason_of, f64_bits, i32_bits, u32_bits, fx_bits, of_quad, of_number, of_bool, of_factor, f64_leaf, i32_leaf, u32_leaf, fx_leaf, quad_leaf, bool_leaf, equality_leaf, factor_leaf, answer_of};
 
-use factor::Factor;
-use leaves::compare::{bool_and, bool_not, bool_or, le_i32, le_u32, lt_i32, lt_u32};
 use leaves::constant::{ConstVal, const_eq};
-use leaves::quad::{Quad, QuadResult};
-use leaves::verdict::Verdict;
+use leaves::quad::Quad;
+use leaves::verdict::Decline;
 use leaves::{fixed, float, quad, signed, unsigned};
+use std::fmt;
 
-// A value by its bits; no value, of a number that is no quad's or where there is no factor; the two reasons of a number leaf.
-#[derive(Clone, Copy)]
-pub enum Answer {
-    Value(u64),
+// A value by its bits, or why there is none.
+pub type Answer = Result<u64, NoValue>;
+
+// There is none of a number that is no quad's, or where there is no factor; the two reasons of a number leaf; no leaf has the number.
+#[derive(Clone, Copy, PartialEq, Eq)]
+pub enum NoValue {
     Absent,
     DivisorZero,
     OutOfRange,
     NoLeaf,
 }
 
+// A number leaf has two reasons.
+impl From<Decline> for NoValue {
+    ghost from_gives = { λ decline reason. reason ≡ reason_of decline };
+
+    fn from(decline: Decline) -> NoValue {
+        match decline {
+            Decline::DivisorZero => NoValue::DivisorZero,
+            Decline::OutOfRange => NoValue::OutOfRange,
+            _ => NoValue::NoLeaf,
+        }
+    }
+}
+
+impl fmt::Display for NoValue {
+    fn fmt<W: fmt::Write>(&self, f: &mut fmt::Formatter<W>) -> fmt::Result {
+        f.write_str(match self {
+            NoValue::Absent => "none",
+            NoValue::DivisorZero => "divisor zero",
+            NoValue::OutOfRange => "out of range",
+            NoValue::NoLeaf => "no leaf",
+        })
+    }
+}
+
 // The first digit of a leaf's number is its kind, the second the leaf.
+#[tactic(auto, unfolding(crate::specs::Leaves::answer_of, crate::specs::Leaves::pick))]
 pub fn compute(leaf: u64, a: u64, b: u64) -> Answer
     ensures { result ≡ answer_of leaf a b }
 {
@@ -32,25 +58,27 @@ pub fn compute(leaf: u64, a: u64, b: u64) -> Answer
         6 => bool_leaf(leaf % 16, a == 1, b == 1),
         7 => equality(leaf % 16, a, b),
         8 => factor_leaf(leaf % 16, i32_of(a), i32_of(b)),
-        _ => Answer::NoLeaf,
+        _ => Err(NoValue::NoLeaf),
     }
 }
 
 // 0 reads a value and writes it back; 4 is the Rust's division, 5 IEEE 754's.
+#[tactic(auto, unfolding(crate::specs::Leaves::pick))]
 fn f64_leaf(leaf: u64, a: f64, b: f64) -> Answer
     ensures { result ≡ f64_leaf leaf a b }
 {
     match leaf {
-        0 => Answer::Value(float::to_bits(a)),
+        0 => Ok(float::to_bits(a)),
         1 => of_f64(float::add_f64(a, b)),
         2 => of_f64(float::sub_f64(a, b)),
         3 => of_f64(float::mul_f64(a, b)),
         4 => of_f64(float::div_f64(a, b)),
         5 => of_f64(float::ieee_div_f64(a, b)),
-        _ => Answer::NoLeaf,
+        _ => Err(NoValue::NoLeaf),
     }
 }
 
+#[tactic(auto, unfolding(crate::specs::Leaves::pick))]
 fn i32_leaf(leaf: u64, a: i32, b: i32) -> Answer
     ensures { result ≡ i32_leaf leaf a b }
 {
@@ -60,12 +88,13 @@ fn i32_leaf(leaf: u64, a: i32, b: i32) -> Answer
         3 => of_i32(signed::mul_i32(a, b)),
         4 => of_i32(signed::div_i32(a, b)),
         5 => of_i32(signed::mod_i32(a, b)),
-        6 => of_bool(lt_i32(a, b)),
-        7 => of_bool(le_i32(a, b)),
-        _ => Answer::NoLeaf,
+        6 => of_bool(a < b),
+        7 => of_bool(a <= b),
+        _ => Err(NoValue::NoLeaf),
     }
 }
 
+#[tactic(auto, unfolding(crate::specs::Leaves::pick))]
 fn u32_leaf(leaf: u64, a: u32, b: u32) -> Answer
     ensures { result ≡ u32_leaf leaf a b }
 {
@@ -75,12 +104,13 @@ fn u32_leaf(leaf: u64, a: u32, b: u32) -> Answer
         3 => of_u32(unsigned::mul_u32(a, b)),
         4 => of_u32(unsigned::div_u32(a, b)),
         5 => of_u32(unsigned::mod_u32(a, b)),
-        6 => of_bool(lt_u32(a, b)),
-        7 => of_bool(le_u32(a, b)),
-        _ => Answer::NoLeaf,
+        6 => of_bool(a < b),
+        7 => of_bool(a <= b),
+        _ => Err(NoValue::NoLeaf),
     }
 }
 
+#[tactic(auto, unfolding(crate::specs::Leaves::pick))]
 fn fx_leaf(leaf: u64, a: i32, b: i32) -> Answer
     ensures { result ≡ fx_leaf leaf a b }
 {
@@ -89,16 +119,17 @@ fn fx_leaf(leaf: u64, a: i32, b: i32) -> Answer
         2 => of_fx(fixed::sub_fx(a, b)),
         3 => of_fx(fixed::mul_fx(a, b)),
         4 => of_fx(fixed::div_fx(a, b)),
-        _ => Answer::NoLeaf,
+        _ => Err(NoValue::NoLeaf),
     }
 }
 
 // 0 reads a quad from a number. QNot and QTruthNot have one operand, the left.
+#[tactic(auto, unfolding(crate::specs::Leaves::pick))]
 fn quad_leaf(leaf: u64, a: u64, b: u64) -> Answer
     ensures { result ≡ quad_leaf leaf a b }
 {
     match leaf {
-        0 => of_number(quad::quad_of(u8_of(a))),
+        0 => of_number(Quad::try_from(u8_of(a)).ok()),
         1 => of_quad(quad::qand(quad_of(a), quad_of(b))),
         2 => of_quad(quad::qor(quad_of(a), quad_of(b))),
         3 => of_quad(quad::qimpl(quad_of(a), quad_of(b))),
@@ -107,19 +138,20 @@ fn quad_leaf(leaf: u64, a: u64, b: u64) -> Answer
         6 => of_quad(quad::qtruth_or(quad_of(a), quad_of(b))),
         7 => of_quad(quad::qtruth_impl(quad_of(a), quad_of(b))),
         8 => of_quad(quad::qtruth_not(quad_of(a))),
-        _ => Answer::NoLeaf,
+        _ => Err(NoValue::NoLeaf),
     }
 }
 
 // BoolNot has one operand, the left.
+#[tactic(auto, unfolding(crate::specs::Leaves::pick))]
 fn bool_leaf(leaf: u64, a: bool, b: bool) -> Answer
     ensures { result ≡ bool_leaf leaf a b }
 {
     match leaf {
-        1 => of_bool(bool_and(a, b)),
-        2 => of_bool(bool_or(a, b)),
-        3 => of_bool(bool_not(a)),
-        _ => Answer::NoLeaf,
+        1 => of_bool(a & b),
+        2 => of_bool(a | b),
+        3 => of_bool(!a),
+        _ => Err(NoValue::NoLeaf),
     }
 }
 
@@ -131,19 +163,20 @@ fn equality(kind: u64, a: u64, b: u64) -> Answer
         return of_bool(const_eq(constant(a, 0), constant(b, 0)));
     }
     if 6 < kind {
-        return Answer::NoLeaf;
+        return Err(NoValue::NoLeaf);
     }
     of_bool(const_eq(constant(kind, a), constant(kind, b)))
 }
 
 // The other factor of a wanted value, the left operand, and a factor, the right one: 1 of a MulFx, 2 of a MulI32.
+#[tactic(auto, unfolding(crate::specs::Leaves::pick))]
 fn factor_leaf(leaf: u64, wanted: i32, given: i32) -> Answer
     ensures { result ≡ factor_leaf leaf wanted given }
 {
     match leaf {
         1 => of_factor(factor::factor_fx(wanted, given)),
         2 => of_factor(factor::factor_i32(wanted, given)),
-        _ => Answer::NoLeaf,
+        _ => Err(NoValue::NoLeaf),
     }
 }
 
@@ -161,23 +194,23 @@ fn u32_of(n: u64) -> u32
     (n % 4294967296) as u32
 }
 
+#[tactic(auto, unfolding(crate::specs::Leaves::i32_of))]
 fn i32_of(n: u64) -> i32
     ensures { result ≡ i32_of n }
 {
-    signed::of_bits(u32_of(n))
+    u32_of(n).cast_signed()
 }
 
 // N where the number is no quad's.
+#[tactic(auto, unfolding(crate::specs::Leaves::quad_at))]
 fn quad_of(n: u64) -> Quad
     ensures { result ≡ quad_at n }
 {
-    let QuadResult::Value(q) = quad::quad_of(u8_of(n)) else {
-        return Quad::N;
-    };
-    q
+    Quad::try_from(u8_of(n)).unwrap_or(Quad::N)
 }
 
 // The constant of a kind, numbered as ConstVal's cases are.
+#[tactic(auto, unfolding(crate::specs::Leaves::constant_of))]
 fn constant(kind: u64, bits: u64) -> ConstVal
     ensures { result ≡ constant_of kind bits }
 {
@@ -192,100 +225,70 @@ fn constant(kind: u64, bits: u64) -> ConstVal
     }
 }
 
-// ---- answers; a value of another kind is no leaf's
+// ---- answers; a value of another kind is no leaf's, so each kind has its own function: one over all kinds would take them all
 
-fn of_f64(v: Verdict) -> Answer
+fn of_f64(v: Result<ConstVal, Decline>) -> Answer
     ensures { result ≡ of_verdict f64_bits v }
 {
-    let Verdict::Value(x) = v else {
-        return reason(v);
-    };
-    let ConstVal::F64(a) = x else {
-        return Answer::NoLeaf;
-    };
-    Answer::Value(float::to_bits(a))
-}
-
-fn of_i32(v: Verdict) -> Answer
-    ensures { result ≡ of_verdict i32_bits v }
-{
-    let Verdict::Value(x) = v else {
-        return reason(v);
-    };
-    let ConstVal::I32(a) = x else {
-        return Answer::NoLeaf;
-    };
-    Answer::Value(signed::bits_of(a) as u64)
-}
-
-fn of_u32(v: Verdict) -> Answer
-    ensures { result ≡ of_verdict u32_bits v }
-{
-    let Verdict::Value(x) = v else {
-        return reason(v);
-    };
-    let ConstVal::U32(a) = x else {
-        return Answer::NoLeaf;
-    };
-    Answer::Value(a as u64)
-}
-
-fn of_fx(v: Verdict) -> Answer
-    ensures { result ≡ of_verdict fx_bits v }
-{
-    let Verdict::Value(x) = v else {
-        return reason(v);
-    };
-    let ConstVal::Fx(a) = x else {
-        return Answer::NoLeaf;
-    };
-    Answer::Value(signed::bits_of(a) as u64)
-}
-
-// Why there is no value. A number leaf has two reasons.
-fn reason(v: Verdict) -> Answer
-    ensures { result ≡ reason_of v }
-{
-    match v {
-        Verdict::Value(_) => Answer::NoLeaf,
-        Verdict::LeftUnknown => Answer::NoLeaf,
-        Verdict::RightUnknown => Answer::NoLeaf,
-        Verdict::Unfit => Answer::NoLeaf,
-        Verdict::DivisorZero => Answer::DivisorZero,
-        Verdict::OutOfRange => Answer::OutOfRange,
-        Verdict::NotComputed => Answer::NoLeaf,
+    match v? {
+        ConstVal::F64(a) => Ok(float::to_bits(a)),
+        _ => Err(NoValue::NoLeaf),
     }
 }
 
-fn of_number(r: QuadResult) -> Answer
+fn of_i32(v: Result<ConstVal, Decline>) -> Answer
+    ensures { result ≡ of_verdict i32_bits v }
+{
+    match v? {
+        ConstVal::I32(a) => Ok(u64::from(a.cast_unsigned())),
+        _ => Err(NoValue::NoLeaf),
+    }
+}
+
+fn of_u32(v: Result<ConstVal, Decline>) -> Answer
+    ensures { result ≡ of_verdict u32_bits v }
+{
+    match v? {
+        ConstVal::U32(a) => Ok(u64::from(a)),
+        _ => Err(NoValue::NoLeaf),
+    }
+}
+
+fn of_fx(v: Result<ConstVal, Decline>) -> Answer
+    ensures { result ≡ of_verdict fx_bits v }
+{
+    match v? {
+        ConstVal::Fx(a) => Ok(u64::from(a.cast_unsigned())),
+        _ => Err(NoValue::NoLeaf),
+    }
+}
+
+fn of_number(r: Option<Quad>) -> Answer
     ensures { result ≡ of_number r }
 {
-    let QuadResult::Value(q) = r else {
-        return Answer::Absent;
-    };
-    of_quad(q)
+    match r {
+        Some(q) => of_quad(q),
+        None => Err(NoValue::Absent),
+    }
 }
 
 fn of_quad(q: Quad) -> Answer
     ensures { result ≡ of_quad q }
 {
-    Answer::Value(quad::number_of(q) as u64)
+    Ok(u64::from(u8::from(q)))
 }
 
-fn of_factor(f: Factor) -> Answer
+fn of_factor(f: Option<i32>) -> Answer
     ensures { result ≡ of_factor f }
 {
-    let Factor::Found(x) = f else {
-        return Answer::Absent;
-    };
-    Answer::Value(signed::bits_of(x) as u64)
+    match f {
+        Some(x) => Ok(u64::from(x.cast_unsigned())),
+        None => Err(NoValue::Absent),
+    }
 }
 
 fn of_bool(b: bool) -> Answer
     ensures { result ≡ of_bool b }
 {
-    if b {
-        return Answer::Value(1);
-    }
-    Answer::Value(0)
+    Ok(u64::from(b))
 }

@@ -4,7 +4,6 @@ ghost use Rattle.std.specs.Prelude.{◌≡◌, ◌↔◌, true};
 ghost use Rattle.cases_leaves.specs.Rows.{HoldsUnder};
 
 use crate::row;
-use crate::row::Field;
 use std::io::Read;
 use std::rt::Files;
 use std::{fs, io};
@@ -18,16 +17,10 @@ const LENGTH: usize = 5;
 
 const NAME: usize = 8;
 
-#[derive(Clone, Copy)]
-enum Step {
-    Passed(u64),
-    End,
-}
-
 // Opens the file and runs it; without one, a line says so.
 pub fn start<R: Files + Print>(rt: &R) -> io::Result<()> {
     let Ok(file) = fs::open(rt, "vectors.txt") else {
-        return casebook::text(rt, b"wrong: vectors.txt is not to be read\n");
+        return println!(rt; "wrong: vectors.txt is not to be read");
     };
     run(rt, file)
 }
@@ -37,15 +30,10 @@ pub fn run<F: Read + Drop>(rt: &impl Print, mut file: F) -> io::Result<()> {
     let mut group = [b' '; LINE];
     let mut passed: u64 = 0;
     for _ in 0..u64::MAX {
-        let step = read_line(rt, &mut file, &mut group, passed)?;
-        match step {
-            Step::Passed(n) => {
-                passed = n;
-            }
-            Step::End => {
-                return Ok(());
-            }
-        }
+        let Some(n) = read_line(rt, &mut file, &mut group, passed)? else {
+            return Ok(());
+        };
+        passed = n;
     }
     Ok(())
 }
@@ -56,50 +44,47 @@ fn read_line<F: Read>(
     file: &mut F,
     group: &mut [u8; LINE],
     passed: u64,
-) -> io::Result<Step> {
+) -> io::Result<Option<u64>> {
     let mut line = [0u8; LINE];
     let n = casebook::read_full(file, &mut line);
     if n == 0 {
         end_group(rt, group, passed)?;
-        return Ok(Step::End);
+        return Ok(None);
     }
     if n < LINE {
         end_group(rt, group, passed)?;
-        casebook::text(rt, b"wrong: the last line of the vectors is short\n")?;
-        return Ok(Step::End);
+        println!(rt; "wrong: the last line of the vectors is short")?;
+        return Ok(None);
     }
     if line[0] == b'#' {
         end_group(rt, group, passed)?;
         *group = line;
-        return Ok(Step::Passed(0));
+        return Ok(Some(0));
     }
-    Ok(Step::Passed(casebook::count(passed, run_row(rt, group, &line))))
+    Ok(Some(casebook::count(passed, run_row(rt, group, &line))))
 }
 
 // Whether a row of the group holds; if not, with a line.
+#[tactic(auto, unfolding(crate::specs::Rows::HoldsUnder))]
 fn run_row(rt: &impl Print, group: &[u8], line: &[u8]) -> bool
     ensures { (result ≡ true) ↔ HoldsUnder group.now line.now }
 {
-    let leaf = row::number(group, LEAF, 2);
-    let Field::Value(n) = leaf else {
-        let _ = casebook::text(rt, b"wrong: a row of vectors in no group\n");
+    let Some(leaf) = row::number(group, LEAF, 2) else {
+        let _ = println!(rt; "wrong: a row of vectors in no group");
         return false;
     };
-    row::holds(rt, group, n, line)
+    row::holds(rt, group, leaf, line)
 }
 
 // The line of a group, if there was one.
 fn end_group(rt: &impl Print, group: &[u8], passed: u64) -> io::Result<()> {
-    let length = row::number(group, LENGTH, 2);
-    let Field::Value(n) = length else {
+    let Some(length) = row::number(group, LENGTH, 2) else {
         return Ok(());
     };
-    let end = NAME + (n % 256) as usize;
-    if group.len() < end {
+    let end = NAME + (length % 256) as usize;
+    let Some(name) = group.get(NAME..end) else {
         return Ok(());
-    }
-    casebook::text(rt, &group[NAME..end])?;
-    casebook::text(rt, b": ")?;
-    casebook::decimal(rt, passed)?;
-    casebook::text(rt, b" passed\n")
+    };
+    rt.write_all(name)?;
+    println!(rt; ": {passed} passed")
 }

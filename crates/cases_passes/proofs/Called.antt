@@ -12,12 +12,11 @@ use Rattle.cells.proofs.Over.{copied}
 use Rattle.cases_passes.specs.Operations.{asked_by, answer, output}
 use Rattle.cases_passes.specs.Rows.{marks, lent, Agrees, reply_in, room_in, answers_in, Fits, HoldsAs, Holds}
 use Rattle.cases_passes.specs.declared.operation.Operation.{Operation}
-use Rattle.cases_passes.specs.declared.operation.Asked.{Asked}
-use Rattle.cases_passes.specs.declared.operation.Asked.TheVariants.{Run, Unknown}
 use Rattle.cases_passes.specs.declared.operation.Reply.{Reply}
 use Rattle.cases_passes.specs.States.{HoldsIn}
 use Rattle.cases_passes.specs.declared.records.State.{State}
 use Rattle.casebook.proofs.Decides.{no, both, through}
+use Rattle.std.specs.Prelude.{Option, Some, None}
 
 -- ---- an operation and its output
 
@@ -37,7 +36,7 @@ agreed o s want out model got r n m x y e a b f g =
 
 -- ---- a head
 
-module _ (h s want : List ℕ) (n : ℕ) (en : n ≡ answers_in h) (a : Asked) (asked : a ≡ asked_by (byte h 0) n) where
+module _ (h s want : List ℕ) (n : ℕ) (en : n ≡ answers_in h) (a : Option Operation) (asked : a ≡ asked_by (byte h 0) n) where
   holds_as : Holds h s want → HoldsAs a h s want
   unfolding Holds
   holds_as p = rw (asked, en) p
@@ -49,10 +48,10 @@ module _ (h s want : List ℕ) (n : ℕ) (en : n ≡ answers_in h) (a : Asked) (
   refused : (r : Bool) → r ≡ false → (HoldsAs a h s want → ⊥) → (r ≡ true) ↔ Holds h s want
   refused r e f = rw e (no (λ (p : Holds h s want). f (holds_as p)))
 
-  pub unknown : (r : Bool) → r ≡ false → a ≡ Unknown → (r ≡ true) ↔ Holds h s want
+  pub unknown : (r : Bool) → r ≡ false → a ≡ None → (r ≡ true) ↔ Holds h s want
   unknown r e f = refused r e (λ (p : HoldsAs a h s want). rw f at p)
 
-  module _ (o : Operation) (known : a ≡ Run o) (room : ℕ) (e : Reply) (er : room ≡ room_in h) (ee : e ≡ reply_in h) where
+  module _ (o : Operation) (known : a ≡ Some o) (room : ℕ) (e : Reply) (er : room ≡ room_in h) (ee : e ≡ reply_in h) where
     fits : HoldsAs a h s want → Fits o h s want
     fits p = rw known at p
 

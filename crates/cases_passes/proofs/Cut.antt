@@ -3,7 +3,6 @@ use Prim.Native.Nat.{ℕ, ◌+◌, ◌*◌, ◌-◌, ◌≤◌}
 use mathlib.Core.Path.{◌≡◌, refl, sym, ◌∙◌, ap, ap₂}
 use mathlib.Core.Bool.{Bool, true, false, cond}
 use mathlib.Core.List.{List, [], ◌++◌, append-nil}
-use mathlib.Core.Option.{Option, none, some}
 use native.Mathlib.Omega.{arith}
 use borrow.Author.Tests.{leb-true}
 use lib.Dec.{leb}
@@ -12,11 +11,9 @@ use lib.Seq.{take-length, take_all, take-append_seam}
 use Rattle.cells.specs.Refusals.{numbered}
 use Rattle.release.specs.Frames.{Image, images_of, count_as}
 use Rattle.release.specs.Release.{with_room, admitted, answer_as, release_answer, release_output, release_answers}
-use Rattle.release.specs.declared.Framing.TheVariants.{PastEnd, Images}
-use Rattle.release.specs.declared.Released.{Released}
-use Rattle.release.specs.declared.Released.TheVariants.{Written, Refused}
 use Rattle.cases_passes.specs.Operations.{good_reply, refused_reply, images_in, release_reply, parts_reply, parts_output}
 use Rattle.cases_passes.specs.declared.operation.Reply.{Reply}
+use Rattle.std.specs.Prelude.{Option, unwrap_or, Some, None}
 
 -- ---- the two parts
 
@@ -47,7 +44,7 @@ module _ (s lent answers : List ℕ) (cut : ℕ) (fit : cut + length answers ≡
     copy_length : length copy ≡ length lent - cut
     copy_length = ap length copy_is ∙ length-drop cut lent
 
-    pub parts_answer : (r : Released) → r ≡ release_answer s (length (take cut lent)) (length copy) → r ≡ release_answer s cut (length lent - cut)
+    pub parts_answer : (r : Option ℕ) → r ≡ release_answer s (length (take cut lent)) (length copy) → r ≡ release_answer s cut (length lent - cut)
     parts_answer r f = f ∙ ap₂ (release_answer s) (sym first-length) copy_length
 
     module _ (numbers : List ℕ) (f : numbers ≡ release_answers s (length (take cut lent)) copy) where
@@ -73,40 +70,36 @@ module _ (s lent answers : List ℕ) (cut : ℕ) (fit : cut + length answers ≡
 
 -- ---- the images
 
-pub images_counted : (o : Option (List Image)) (n : ℕ) → count_as o ≡ Images n → n ≡ images_in o
-images_counted none n e = let z : ◌≡◌ {A = ℕ} 0 1 = cc in absurd (omega arith)
-images_counted (some is) n e = cc
+pub images_counted : (o : Option (List Image)) → unwrap_or (count_as o) 0 ≡ images_in o
+images_counted None = refl
+images_counted (Some is) = refl
 
-pub none-counted : (o : Option (List Image)) → count_as o ≡ PastEnd → 0 ≡ images_in o
-none-counted none e = refl
-none-counted (some is) e = let z : ◌≡◌ {A = ℕ} 0 1 = cc in absurd (omega arith)
-
-room_for : (is : List Image) (k w : ℕ) (t : Bool) → leb (12 * length is) k ≡ t → Written w ≡ answer_as (cond t (some is) none) → 12 * length is ≤ k
+room_for : (is : List Image) (k w : ℕ) (t : Bool) → leb (12 * length is) k ≡ t → Some w ≡ answer_as (cond t (Some is) None) → 12 * length is ≤ k
 room_for is k w true h e = leb-true (12 * length is) k h
 room_for is k w false h e = let z : ◌≡◌ {A = ℕ} 0 1 = cc in absurd (omega arith)
 
-room_in_lem : (t : Bool) (o : Option (List Image)) (k w : ℕ) → Written w ≡ answer_as (cond t (with_room k o) none) → 12 * images_in o ≤ k
+room_in_lem : (t : Bool) (o : Option (List Image)) (k w : ℕ) → Some w ≡ answer_as (cond t (with_room k o) None) → 12 * images_in o ≤ k
 room_in_lem false o k w e = let z : ◌≡◌ {A = ℕ} 0 1 = cc in absurd (omega arith)
-room_in_lem true none k w e = omega arith
-room_in_lem true (some is) k w e = room_for is k w (leb (12 * length is) k) refl e
+room_in_lem true None k w e = omega arith
+room_in_lem true (Some is) k w e = room_for is k w (leb (12 * length is) k) refl e
 
 -- ---- the answer
 
-module _ (s : List ℕ) (cut n k : ℕ) (c : cut ≡ n - k) (r : Released) (e : r ≡ release_answer s cut (n - cut)) where
+module _ (s : List ℕ) (cut n k : ℕ) (c : cut ≡ n - k) (r : Option ℕ) (e : r ≡ release_answer s cut (n - cut)) where
   -- all answers end within the lent bytes
-  pub answers_end : (w : ℕ) → r ≡ Written w → 12 * images_in (images_of s) ≤ n - cut
+  pub answers_end : (w : ℕ) → r ≡ Some w → 12 * images_in (images_of s) ≤ n - cut
   unfolding release_answer admitted
   answers_end w f = room_in_lem (leb (length s) cut) (images_of s) (n - cut) w (sym f ∙ e)
 
-  reply_as : (a : Released) → r ≡ a → release_reply cut (images_of s) a ≡ parts_reply s (n - k) n
+  reply_as : (a : Option ℕ) → r ≡ a → release_reply cut (images_of s) a ≡ parts_reply s (n - k) n
   unfolding parts_reply
   reply_as a f = ap (release_reply cut (images_of s)) (sym f ∙ e) ∙ ap (λ (j : ℕ). parts_reply s j n) c
 
-  pub reply-written : (w i : ℕ) (t : Reply) → r ≡ Written w → i ≡ images_in (images_of s) → t ≡ good_reply (cut + 12 * i) w false → t ≡ parts_reply s (n - k) n
-  reply-written w i t f g h = h ∙ ap (λ (j : ℕ). good_reply (cut + 12 * j) w false) g ∙ reply_as (Written w) f
+  pub reply-written : (w i : ℕ) (t : Reply) → r ≡ Some w → i ≡ images_in (images_of s) → t ≡ good_reply (cut + 12 * i) w false → t ≡ parts_reply s (n - k) n
+  reply-written w i t f g h = h ∙ ap (λ (j : ℕ). good_reply (cut + 12 * j) w false) g ∙ reply_as (Some w) f
 
-  pub reply-refused : (t : Reply) → r ≡ Refused → t ≡ refused_reply (numbered 33 0 0) → t ≡ parts_reply s (n - k) n
-  reply-refused t f h = h ∙ reply_as Refused f
+  pub reply-refused : (t : Reply) → r ≡ None → t ≡ refused_reply (numbered 33 0 0) → t ≡ parts_reply s (n - k) n
+  reply-refused t f h = h ∙ reply_as None f
 
   pub output_as_lem : (lent after : List ℕ) → after ≡ parts_output s cut lent → after ≡ parts_output s (n - k) lent
   output_as_lem lent after f = f ∙ ap (λ (j : ℕ). parts_output s j lent) c

@@ -1,12 +1,10 @@
 -- Inner: when a call in a file of cases holds: the operation's answer is the one written down, and so is every byte of the output, which is marked
 -- before and longer than what is lent.
-use Rattle.std.specs.Prelude.{ℕ, zero, suc, ◌+◌, ◌%◌, ◌≤◌, ◌≡◌, List, [], ◌∷◌, ◌++◌, length, take, drop}
+use Rattle.std.specs.Prelude.{ℕ, zero, suc, ◌+◌, ◌%◌, ◌≤◌, ◌≡◌, List, [], ◌∷◌, ◌++◌, length, take, drop, Option, Some, None}
 use Rattle.cells.specs.Bytes.{byte, half, word}
 use Rattle.cells.specs.Cells.{over}
 use Rattle.cases_passes.specs.Operations.{asked_by, answer, output}
 use Rattle.cases_passes.specs.declared.operation.Operation.{Operation}
-use Rattle.cases_passes.specs.declared.operation.Asked.{Asked}
-use Rattle.cases_passes.specs.declared.operation.Asked.TheVariants.{Run, Unknown}
 use Rattle.cases_passes.specs.declared.operation.Reply.{Reply}
 
 -- n bytes that go by their position
@@ -43,9 +41,9 @@ pub record Fits (o : Operation) (h s want : List ℕ) : Type 0 where
   pub given : word h 12 ≤ length want
   pub agrees : Agrees o s (take (word h 12) want) (reply_in h) (room_in h) (room_in h + 64)
 
-abbrev pub HoldsAs : Asked → List ℕ → List ℕ → List ℕ → Type 0
-HoldsAs (Run o) h s want = Fits o h s want
-HoldsAs Unknown h s want = ⊥
+abbrev pub HoldsAs : Option Operation → List ℕ → List ℕ → List ℕ → Type 0
+HoldsAs (Some o) h s want = Fits o h s want
+HoldsAs None h s want = ⊥
 
 unfoldable pub Holds : List ℕ → List ℕ → List ℕ → Type 0
 Holds h s want = HoldsAs (asked_by (byte h 0) (answers_in h)) h s want

@@ -3,10 +3,11 @@ ghost use Rattle.std.specs.Prelude.{◌≡◌, ◌↔◌, true, false, ◌≤◌
 ghost use Rattle.cases_passes.specs.Operations.{answer};
 ghost use Rattle.cases_passes.specs.Rows.{reply_in, Holds};
 
-use crate::lent::MAX_ROOM;
-use crate::operation::{Asked, Operation, Reply};
+use crate::lent::{MAX_ROOM, SPACE};
+use crate::operation::{Operation, Reply};
 use crate::{lent, operation};
 use cells::read;
+use input::zeros;
 use std::io;
 
 // Bytes of a record's head.
@@ -18,7 +19,7 @@ pub fn holds(rt: &impl Print, head: &[u8; HEAD], name: &[u8], image: &[u8], want
 {
     let answers = read::half(head, 22);
     let asked = operation::asked_by(head[0], answers as u16);
-    let Asked::Run(operation) = asked else {
+    let Some(operation) = asked else {
         return malformed(rt, name);
     };
     let room = read::word(head, 8);
@@ -47,12 +48,12 @@ fn reply_in(head: &[u8; HEAD]) -> Reply
     ensures { result ≡ reply_in head.now }
 {
     Reply {
-        number: read::wide(head[1]),
+        number: usize::from(head[1]),
         position: read::half(head, 2),
         detail: read::word(head, 4),
         length: read::word(head, 12),
         rewrites: read::word(head, 16),
-        changed: read::wide(head[20]),
+        changed: usize::from(head[20]),
     }
 }
 
@@ -64,9 +65,9 @@ fn malformed(rt: &impl Print, name: &[u8]) -> bool
 }
 
 fn not_read(rt: &impl Print, name: &[u8]) -> io::Result<()> {
-    casebook::text(rt, b"wrong: ")?;
-    casebook::text(rt, name)?;
-    casebook::text(rt, b", a malformed call\n")
+    rt.write_all(b"wrong: ")?;
+    rt.write_all(name)?;
+    println!(rt; ", a malformed call")
 }
 
 // The operation's byte, the bytes lent, and both answers; where these are the same, the output is wrong.
@@ -81,17 +82,13 @@ fn wrong(
 ) -> io::Result<()>
     requires { room ≤ 242440 }
 {
-    casebook::text(rt, b"wrong: ")?;
-    casebook::text(rt, name)?;
-    casebook::text(rt, b", operation ")?;
-    number(rt, byte as usize)?;
-    casebook::text(rt, b"lent ")?;
-    number(rt, room)?;
-    casebook::text(rt, b"expected ")?;
+    rt.write_all(b"wrong: ")?;
+    rt.write_all(name)?;
+    print!(rt; ", operation {byte} lent {room} expected ")?;
     show(rt, expected)?;
-    casebook::text(rt, b"got ")?;
+    print!(rt; "got ")?;
     show(rt, again(operation, image, room))?;
-    casebook::text(rt, b"\n")
+    println!(rt; "")
 }
 
 // The answer of one more call.
@@ -99,20 +96,19 @@ fn again(operation: Operation, image: &[u8], room: usize) -> Reply
     requires { room ≤ 242440 }
     ensures { result ≡ answer operation image.now room }
 {
-    let mut out = lent::space();
+    let mut out = zeros::<SPACE>();
     operation::run(operation, image, &mut out[..room])
 }
 
-fn show(rt: &impl Print, r: Reply) -> io::Result<()> {
-    number(rt, r.number)?;
-    number(rt, r.position)?;
-    number(rt, r.detail)?;
-    number(rt, r.length)?;
-    number(rt, r.rewrites)?;
-    number(rt, r.changed)
-}
-
-fn number(rt: &impl Print, n: usize) -> io::Result<()> {
-    casebook::decimal(rt, n as u64)?;
-    casebook::text(rt, b" ")
+// The six numbers, with a blank behind each.
+fn show(rt: &impl Print, reply: Reply) -> io::Result<()> {
+    let Reply {
+        number,
+        position,
+        detail,
+        length,
+        rewrites,
+        changed,
+    } = reply;
+    print!(rt; "{number} {position} {detail} {length} {rewrites} {changed} ")
 }

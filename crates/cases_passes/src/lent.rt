@@ -6,6 +6,7 @@ ghost use Rattle.cases_passes.specs.Rows.{marks, lent, Agrees};
 use crate::operation;
 use crate::operation::{Operation, Reply};
 use cells::buffer;
+use input::zeros;
 
 // The most bytes that are lent: the longest pages, and a line more.
 pub const MAX_ROOM: usize = 242440;
@@ -14,7 +15,7 @@ pub const MAX_ROOM: usize = 242440;
 const BEHIND: usize = 64;
 
 // Both.
-const SPACE: usize = 242504;
+pub const SPACE: usize = 242504;
 
 // Whether an operation on an image, lent `room` bytes of a marked output, gives the reply and leaves `want` in the output, and behind it,
 // past the lent bytes too, the marks.
@@ -22,8 +23,8 @@ pub fn agrees(operation: Operation, image: &[u8], want: &[u8], expected: Reply, 
     requires { (room ≤ 242440) × (length want.now ≤ room) }
     ensures { (result ≡ true) ↔ Agrees operation image.now want.now expected room (room + 64) }
 {
-    let mut out = space();
-    let mut model = space();
+    let mut out = zeros::<SPACE>();
+    let mut model = zeros::<SPACE>();
     let end = room + BEHIND;
     agrees_within(
         operation,
@@ -34,12 +35,6 @@ pub fn agrees(operation: Operation, image: &[u8], want: &[u8], expected: Reply, 
         &mut out[..end],
         &mut model[..end],
     )
-}
-
-pub fn space() -> [u8; SPACE]
-    ensures { 242504 ≡ length result }
-{
-    [0; SPACE]
 }
 
 fn agrees_within(
@@ -60,8 +55,8 @@ fn agrees_within(
     mark(model);
     buffer::copy(want, model);
     let got = operation::run(operation, image, &mut out[..room]);
-    let replied = operation::same(got, expected);
-    let written = same_bytes(out, model);
+    let replied = got == expected;
+    let written = *out == *model;
     replied & written
 }
 
@@ -69,23 +64,7 @@ fn agrees_within(
 fn mark(out: &mut [u8])
     ensures { out.new ≡ marks (length out.old) }
 {
-    let mut i: usize = 0;
-    while i < out.len() {
-        out[i] = (i % 251) as u8;
-        i += 1;
+    for (i, byte) in out.iter_mut().enumerate() {
+        *byte = (i % 251) as u8;
     }
-}
-
-fn same_bytes(a: &[u8], b: &[u8]) -> bool
-    requires { length a.now ≡ length b.now }
-    ensures { (result ≡ true) ↔ (a.now ≡ b.now) }
-{
-    let mut i: usize = 0;
-    while i < a.len() {
-        if a[i] != b[i] {
-            return false;
-        }
-        i += 1;
-    }
-    true
 }

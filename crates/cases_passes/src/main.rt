@@ -19,9 +19,7 @@ fn main(rt: HostRuntime) {
 
 fn file<R: Files + Print>(rt: &R, name: &str) -> io::Result<()> {
     let Ok(file) = fs::open(rt, name) else {
-        casebook::text(rt, b"wrong: not to be read: ")?;
-        casebook::text(rt, name.as_bytes())?;
-        return casebook::text(rt, b"\n");
+        return println!(rt; "wrong: not to be read: {name}");
     };
     records::run(rt, file)
 }

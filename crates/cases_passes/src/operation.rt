@@ -1,14 +1,13 @@
 // The operations by their bytes in a file of cases, and their answers by the documents' numbers.
-ghost use Rattle.std.specs.Prelude.{◌≡◌, ◌↔◌, true, length};
-ghost use Rattle.cells.specs.Lists.{one};
+ghost use Rattle.std.specs.Prelude.{◌≡◌, length};
 ghost use Rattle.cases_passes.specs.Operations.{asked_by, good_reply, refused_reply, check_reply, sealing_reply, rewrite_reply, pages_reply, packing_reply, answer, output};
 
 use crate::parts;
-use cells::refusal::{Checked, Numbers, numbers_of};
-use packed::Packing;
-use pages::Paged;
-use passes::Rewrite;
-use sealing::{Sealing, repeat_number};
+use cells::refusal::{Numbers, Refusal};
+use packed::PackingError;
+use pages::PagesError;
+use passes::Written;
+use sealing::SealingError;
 
 #[derive(Clone, Copy)]
 pub enum Operation {
@@ -27,15 +26,8 @@ pub enum Operation {
     Release(u16),
 }
 
-// What a byte asks for.
-#[derive(Clone, Copy)]
-pub enum Asked {
-    Run(Operation),
-    Unknown,
-}
-
 // An answer's numbers. A refusal's are 0 0 0 on success, and the others are 0 on a refusal and of the checks.
-#[derive(Clone, Copy)]
+#[derive(Clone, Copy, PartialEq, Eq)]
 pub struct Reply {
     pub number: usize,
     pub position: usize,
@@ -46,23 +38,23 @@ pub struct Reply {
 }
 
 // `answers` goes with a release.
-pub fn asked_by(byte: u8, answers: u16) -> Asked
+pub fn asked_by(byte: u8, answers: u16) -> Option<Operation>
     ensures { result ≡ asked_by byte answers }
 {
     match byte {
-        16 => Asked::Run(Operation::ImageCheck),
-        17 => Asked::Run(Operation::SiteCheck),
-        18 => Asked::Run(Operation::Cleanup),
-        19 => Asked::Run(Operation::CrystalFold),
-        20 => Asked::Run(Operation::Default),
-        21 => Asked::Run(Operation::Fuller),
-        22 => Asked::Run(Operation::Pages),
-        23 => Asked::Run(Operation::Pack),
-        24 => Asked::Run(Operation::Unpack),
-        25 => Asked::Run(Operation::Rest),
-        26 => Asked::Run(Operation::Seal),
-        27 => Asked::Run(Operation::Release(answers)),
-        _ => Asked::Unknown,
+        16 => Some(Operation::ImageCheck),
+        17 => Some(Operation::SiteCheck),
+        18 => Some(Operation::Cleanup),
+        19 => Some(Operation::CrystalFold),
+        20 => Some(Operation::Default),
+        21 => Some(Operation::Fuller),
+        22 => Some(Operation::Pages),
+        23 => Some(Operation::Pack),
+        24 => Some(Operation::Unpack),
+        25 => Some(Operation::Rest),
+        26 => Some(Operation::Seal),
+        27 => Some(Operation::Release(answers)),
+        _ => None,
     }
 }
 
@@ -72,78 +64,77 @@ pub fn run(operation: Operation, image: &[u8], out: &mut [u8]) -> Reply
     ensures out_after { out.new ≡ output operation image.now out.old }
 {
     match operation {
-        Operation::ImageCheck => of_check(image::image_check(image)),
-        Operation::SiteCheck => of_check(image::site_check(image)),
-        Operation::Cleanup => of_rewrite(passes::cleanup(image, out)),
-        Operation::CrystalFold => of_rewrite(passes::crystalfold(image, out)),
-        Operation::Default => of_rewrite(passes::run_default_opt_passes(image, out)),
-        Operation::Fuller => of_rewrite(passes::run_fuller_opt_passes(image, out)),
-        Operation::Pages => of_pages(pages::pages(image, out)),
-        Operation::Pack => of_packing(packed::pack(image, out)),
-        Operation::Unpack => of_packing(packed::unpack(image, out)),
-        Operation::Rest => of_rewrite(rest::rewrite_until_rest(image, out)),
-        Operation::Seal => of_sealing(sealing::sealing_check(image)),
+        Operation::ImageCheck => Reply::from(image::image_check(image)),
+        Operation::SiteCheck => Reply::from(image::site_check(image)),
+        Operation::Cleanup => Reply::from(passes::cleanup(image, out)),
+        Operation::CrystalFold => Reply::from(passes::crystalfold(image, out)),
+        Operation::Default => Reply::from(passes::run_default_opt_passes(image, out)),
+        Operation::Fuller => Reply::from(passes::run_fuller_opt_passes(image, out)),
+        Operation::Pages => Reply::from(pages::pages(image, out)),
+        Operation::Pack => Reply::from(packed::pack(image, out)),
+        Operation::Unpack => Reply::from(packed::unpack(image, out)),
+        Operation::Rest => Reply::from(rest::rewrite_until_rest(image, out)),
+        Operation::Seal => Reply::from(sealing::sealing_check(image)),
         Operation::Release(k) => parts::rewrite_release(image, k, out),
     }
 }
 
-fn of_check(r: Checked) -> Reply
-    ensures { result ≡ check_reply r }
-{
-    match r {
-        Checked::Good => good(0, 0, false),
-        Checked::Refused(x) => refused(numbers_of(x)),
+impl From<Result<(), Refusal>> for Reply {
+    ghost from_gives = { λ answer reply. reply ≡ check_reply answer };
+
+    fn from(answer: Result<(), Refusal>) -> Reply {
+        match answer {
+            Ok(()) => good(0, 0, false),
+            Err(x) => refused(Numbers::from(x)),
+        }
     }
 }
 
-fn of_sealing(r: Sealing) -> Reply
-    ensures { result ≡ sealing_reply r }
-{
-    match r {
-        Sealing::Good => good(0, 0, false),
-        Sealing::Refused(x) => refused(numbers_of(x)),
-        Sealing::Repeated(w, position, detail) => refused(Numbers {
-            number: repeat_number(w),
-            position,
-            detail,
-        }),
+impl From<Result<(), SealingError>> for Reply {
+    ghost from_gives = { λ answer reply. reply ≡ sealing_reply answer };
+
+    fn from(answer: Result<(), SealingError>) -> Reply {
+        match answer {
+            Ok(()) => good(0, 0, false),
+            Err(x) => refused(Numbers::from(x)),
+        }
     }
 }
 
-fn of_rewrite(r: Rewrite) -> Reply
-    ensures { result ≡ rewrite_reply r }
-{
-    match r {
-        Rewrite::Written(length, report) => good(length, report.num_rewrites, report.changed),
-        Rewrite::Refused(x) => refused(numbers_of(x)),
+impl From<Result<Written, Refusal>> for Reply {
+    ghost from_gives = { λ answer reply. reply ≡ rewrite_reply answer };
+
+    fn from(answer: Result<Written, Refusal>) -> Reply {
+        match answer {
+            Ok(written) => good(
+                written.length,
+                written.report.num_rewrites,
+                written.report.changed,
+            ),
+            Err(x) => refused(Numbers::from(x)),
+        }
     }
 }
 
-fn of_pages(r: Paged) -> Reply
-    ensures { result ≡ pages_reply r }
-{
-    match r {
-        Paged::Laid(length) => good(length, 0, false),
-        Paged::Refused(x) => refused(numbers_of(x)),
-        Paged::TooShort => refused(Numbers {
-            number: 30,
-            position: 0,
-            detail: 0,
-        }),
+impl From<Result<usize, PagesError>> for Reply {
+    ghost from_gives = { λ answer reply. reply ≡ pages_reply answer };
+
+    fn from(answer: Result<usize, PagesError>) -> Reply {
+        match answer {
+            Ok(length) => good(length, 0, false),
+            Err(x) => refused(Numbers::from(x)),
+        }
     }
 }
 
-fn of_packing(r: Packing) -> Reply
-    ensures { result ≡ packing_reply r }
-{
-    match r {
-        Packing::Bytes(length) => good(length, 0, false),
-        Packing::Refused(x) => refused(numbers_of(x)),
-        Packing::Ends(position, detail) => refused(Numbers {
-            number: 32,
-            position,
-            detail,
-        }),
+impl From<Result<usize, PackingError>> for Reply {
+    ghost from_gives = { λ answer reply. reply ≡ packing_reply answer };
+
+    fn from(answer: Result<usize, PackingError>) -> Reply {
+        match answer {
+            Ok(length) => good(length, 0, false),
+            Err(x) => refused(Numbers::from(x)),
+        }
     }
 }
 
@@ -156,7 +147,7 @@ pub fn good(length: usize, rewrites: usize, changed: bool) -> Reply
         detail: 0,
         length,
         rewrites,
-        changed: number_of(changed),
+        changed: usize::from(changed),
     }
 }
 
@@ -171,21 +162,4 @@ pub fn refused(n: Numbers) -> Reply
         rewrites: 0,
         changed: 0,
     }
-}
-
-fn number_of(b: bool) -> usize
-    ensures { result ≡ one b }
-{
-    if b { 1 } else { 0 }
-}
-
-pub fn same(a: Reply, b: Reply) -> bool
-    ensures { (result ≡ true) ↔ (a ≡ b) }
-{
-    (a.number == b.number)
-        & (a.position == b.position)
-        & (a.detail == b.detail)
-        & (a.length == b.length)
-        & (a.rewrites == b.rewrites)
-        & (a.changed == b.changed)
 }

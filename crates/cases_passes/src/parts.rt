@@ -8,8 +8,8 @@ use crate::operation;
 use crate::operation::Reply;
 use cells::buffer;
 use cells::refusal::Numbers;
+use input::zeros;
 use release::place::ANSWER;
-use release::{Framing, Released};
 
 // The most bytes of an answers' buffer: what 2 bytes of a call's head can say.
 const MOST: usize = 65535;
@@ -20,30 +20,21 @@ pub fn rewrite_release(release: &[u8], k: u16, lent: &mut [u8]) -> Reply
     ensures lent_after { lent.new ≡ parts_output release.now (length lent.old - k) lent.old }
 {
     let n = lent.len();
-    let cut = less(n, k as usize);
+    let cut = n.saturating_sub(k as usize);
     let end = n - cut;
-    let mut space = most();
-    let r = rewrite_within(release, lent, cut, &mut space[..end]);
-    match r {
-        Released::Written(length) => {
-            operation::good(cut + ANSWER * count(release), length, false)
-        }
-        Released::Refused => operation::refused(Numbers {
-            number: 33,
+    let mut space = zeros::<MOST>();
+    match rewrite_within(release, lent, cut, &mut space[..end]) {
+        Some(length) => { operation::good(cut + ANSWER * count(release), length, false) }
+        None => operation::refused(Numbers {
+            number: release::REFUSAL,
             position: 0,
             detail: 0,
         }),
     }
 }
 
-fn most() -> [u8; MOST]
-    ensures { 65535 ≡ length result }
-{
-    [0; MOST]
-}
-
 // Two parts of one slice can't be lent at once: so the answers are written to a copy, and copied back.
-fn rewrite_within(release: &[u8], lent: &mut [u8], cut: usize, answers: &mut [u8]) -> Released
+fn rewrite_within(release: &[u8], lent: &mut [u8], cut: usize, answers: &mut [u8]) -> Option<usize>
     requires { cut + length answers.old ≡ length lent.old }
     ensures value { result ≡ release_answer release.now cut (length lent.old - cut) }
     ensures lent_after { lent.new ≡ parts_output release.now cut lent.old }
@@ -55,20 +46,9 @@ fn rewrite_within(release: &[u8], lent: &mut [u8], cut: usize, answers: &mut [u8
     r
 }
 
-// n less k, 0 where k is more.
-fn less(n: usize, k: usize) -> usize
-    ensures { result ≡ n - k }
-{
-    if k < n { n - k } else { 0 }
-}
-
 // How many images a release has, 0 where it is none.
 fn count(release: &[u8]) -> usize
     ensures { result ≡ images_in (images_of release.now) }
 {
-    let framing = release::count_images(release);
-    match framing {
-        Framing::Images(n) => n,
-        Framing::PastEnd => 0,
-    }
+    release::count_images(release).unwrap_or(0)
 }

@@ -5,6 +5,7 @@ ghost use Rattle.cases_passes.specs.States.{state_of, HoldsIn};
 
 use crate::call::HEAD;
 use crate::{call, runs};
+use input::zeros;
 use std::io;
 use std::io::Read;
 
@@ -25,45 +26,23 @@ struct State {
     passed: u64,
 }
 
-#[derive(Clone, Copy)]
-enum Step {
-    Next(State),
-    End,
-}
-
 // A proved loop has to end, and nothing says that the file does: so the loop has a number of turns that no run uses up.
 pub fn run<F: Read + Drop>(rt: &impl Print, mut file: F) -> io::Result<()> {
     let mut group = [0u8; 4096];
     let mut name = [0u8; 4096];
-    let mut image = longest();
-    let mut want = longest_output();
+    let mut image = zeros::<LONGEST>();
+    let mut want = zeros::<OUTPUT>();
     let mut state = start(0);
     for _ in 0..u64::MAX {
         let step = record(
             rt, &mut file, &mut group, &mut name, &mut image, &mut want, state,
         )?;
-        match step {
-            Step::Next(s) => {
-                state = s;
-            }
-            Step::End => {
-                return Ok(());
-            }
-        }
+        let Some(next) = step else {
+            return Ok(());
+        };
+        state = next;
     }
     Ok(())
-}
-
-fn longest() -> [u8; LONGEST]
-    ensures { 65552 ≡ length result }
-{
-    [0; LONGEST]
-}
-
-fn longest_output() -> [u8; OUTPUT]
-    ensures { 242384 ≡ length result }
-{
-    [0; OUTPUT]
 }
 
 fn record<F: Read>(
@@ -74,29 +53,29 @@ fn record<F: Read>(
     image: &mut [u8; LONGEST],
     want: &mut [u8; OUTPUT],
     s: State,
-) -> io::Result<Step> {
+) -> io::Result<Option<State>> {
     let mut head = [0u8; HEAD];
     let n = casebook::read_full(file, &mut head);
     if n < HEAD {
         show(rt, group, s)?;
         if 0 < n {
-            casebook::text(rt, b"wrong: the file ends within a record\n")?;
+            println!(rt; "wrong: the file ends within a record")?;
         }
-        return Ok(Step::End);
+        return Ok(None);
     }
     match head[0] {
         0 => {
             show(rt, group, s)?;
-            Ok(Step::Next(start(runs::read(rt, file, &head, group))))
+            Ok(Some(start(runs::read(rt, file, &head, group))))
         }
-        1 => Ok(Step::Next(named(s, runs::read(rt, file, &head, name)))),
-        2 => Ok(Step::Next(sent(
+        1 => Ok(Some(named(s, runs::read(rt, file, &head, name)))),
+        2 => Ok(Some(sent(
             s,
             runs::read(rt, file, &head, image),
             casebook::count(s.images, true),
         ))),
-        3 => Ok(Step::Next(wanted(s, runs::read(rt, file, &head, want)))),
-        _ => Ok(Step::Next(called(
+        3 => Ok(Some(wanted(s, runs::read(rt, file, &head, want)))),
+        _ => Ok(Some(called(
             s,
             casebook::count(s.passed, held(rt, &head, name, image, want, s)),
         ))),
@@ -121,12 +100,10 @@ fn named(s: State, name: usize) -> State
     ensures { result ≡ state_of s.group name 0 0 s.images s.passed }
 {
     State {
-        group: s.group,
         name,
         image: 0,
         want: 0,
-        images: s.images,
-        passed: s.passed,
+        ..s
     }
 }
 
@@ -134,39 +111,23 @@ fn sent(s: State, image: usize, images: u64) -> State
     ensures { result ≡ state_of s.group s.name image 0 images s.passed }
 {
     State {
-        group: s.group,
-        name: s.name,
         image,
         want: 0,
         images,
-        passed: s.passed,
+        ..s
     }
 }
 
 fn wanted(s: State, want: usize) -> State
     ensures { result ≡ state_of s.group s.name s.image want s.images s.passed }
 {
-    State {
-        group: s.group,
-        name: s.name,
-        image: s.image,
-        want,
-        images: s.images,
-        passed: s.passed,
-    }
+    State { want, ..s }
 }
 
 fn called(s: State, passed: u64) -> State
     ensures { result ≡ state_of s.group s.name s.image s.want s.images passed }
 {
-    State {
-        group: s.group,
-        name: s.name,
-        image: s.image,
-        want: s.want,
-        images: s.images,
-        passed,
-    }
+    State { passed, ..s }
 }
 
 // Whether the call in the head holds of the row's image and output.
@@ -197,18 +158,12 @@ fn held(
 
 // The line of a group, if there was one.
 fn show(rt: &impl Print, group: &[u8], s: State) -> io::Result<()> {
-    let n = s.group;
-    if n == 0 {
+    if s.group == 0 {
         return Ok(());
     }
-    if group.len() < n {
+    let Some(name) = group.get(..s.group) else {
         return Ok(());
-    }
-    let start: usize = 0;
-    casebook::text(rt, &group[start..n])?;
-    casebook::text(rt, b": ")?;
-    casebook::decimal(rt, s.images)?;
-    casebook::text(rt, b" images, ")?;
-    casebook::decimal(rt, s.passed)?;
-    casebook::text(rt, b" answers passed\n")
+    };
+    rt.write_all(name)?;
+    println!(rt; ": {} images, {} answers passed", s.images, s.passed)
 }

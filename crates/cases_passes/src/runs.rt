@@ -17,16 +17,11 @@ pub fn read<F: Read>(rt: &impl Print, file: &mut F, head: &[u8; HEAD], buffer: &
     let n = read::word(head, 12);
     let count = read::half(head, 22);
     let mut at: usize = 0;
-    let mut i: usize = 0;
-    while i < count {
+    for _ in 0..count {
         at += read_run(file, buffer, at);
-        i += 1;
     }
     if CELL * at < n {
-        let _ = casebook::text(
-            rt,
-            b"wrong: the file ends within a record, or a record is too long\n",
-        );
+        let _ = println!(rt; "wrong: the file ends within a record, or a record is too long");
         return 0;
     }
     n
@@ -49,8 +44,7 @@ fn read_run<F: Read>(file: &mut F, buffer: &mut [u8], at: usize) -> usize
     if buffer.len() / CELL - at < count {
         return 0;
     }
-    let cell: usize = 4;
-    put_run(&run[cell..], place, count, buffer, at);
+    put_run(&run[4..], place, count, buffer, at);
     count
 }
 
@@ -58,10 +52,8 @@ fn put_run(cell: &[u8], place: usize, count: usize, buffer: &mut [u8], at: usize
     requires { (16 ≤ length cell.now) × (place ≤ 14) × (count < 65536) × (at + count ≤ length buffer.old / 16) }
     ensures { buffer.new ≡ put_run cell.now place at 0 count buffer.old }
 {
-    let mut i: usize = 0;
-    while i < count {
+    for i in 0..count {
         put_numbered(cell, place, i, buffer, at + i);
-        i += 1;
     }
 }
 

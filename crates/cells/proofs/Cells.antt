@@ -134,3 +134,22 @@ cells-append s t e =
     let l : length s ≡ 16 * (length s / 16) = omega arith in
     let n : length (s ++ t) / 16 ≡ length s / 16 + length t / 16 = omega (arith, length-append s t) in
     ap (λ (k : ℕ). chunks k (s ++ t)) n ∙ chunks-append (length s / 16) (length t / 16) s t l
+
+-- a walk by `chunks_exact`: with i cells behind it, the next is the cell at i; where fewer than 16 bytes are left, there is none
+pub record Walked (s : List ℕ) (i : ℕ) (c next : List ℕ) : Type 0 where
+  pub inside : i < length (cells s)
+  pub is : c ≡ get_or (cells s) i []
+  pub next_is : next ≡ drop (16 * (i + 1)) s
+
+pub walk_turn : (s : List ℕ) (i : ℕ) {rest c next : List ℕ} → rest ≡ drop (16 * i) s → rest ≡ c ++ next → length c ≡ 16 → Walked s i c next
+walk_turn s i {rest} {c} {next} e k l =
+    let h : i < length s / 16 = omega (arith, ap length (sym k ∙ e), length-append c next, length-drop (16 * i) s) in
+    let n : 16 * i + 16 ≡ 16 * (i + 1) = omega arith in
+    record {
+      inside = omega (arith, length-cells s);
+      is = sym (take_at c next 16 l) ∙ ap (take 16) (sym k ∙ e) ∙ sym (cell_at_lem s i h);
+      next_is = sym (drop_at c next 16 l) ∙ ap (drop 16) (sym k ∙ e) ∙ rw drop-drop (ap (λ (j : ℕ). drop j s) n);
+    }
+
+pub walk_end : (s : List ℕ) (i : ℕ) {rest : List ℕ} → rest ≡ drop (16 * i) s → length rest < 16 → length (cells s) ≤ i
+walk_end s i e h = omega (arith, ap length e, length-drop (16 * i) s, length-cells s)

@@ -1,7 +1,7 @@
 -- Small facts: tests as equations, numbers that may be there, labels.
+use Rattle.std.specs.Prelude.{Option, None, Some}
 use mathlib.Core.Path.{◌≡◌, refl, sym, ◌∙◌, ap}
 use mathlib.Core.Bool.{Bool, true, false, ◌&&◌, ◌||◌, not, true≢false}
-use mathlib.Core.Option.{Option, none, some}
 use Prim.Native.Nat.{ℕ}
 use lib.Dec.{eqb, T, eqb→eq, eqb_refl}
 use Rattle.cells.specs.Ins.{Ins, load, comp, label, jmp, jmp_if, ret, act, label_of, alike}
@@ -43,23 +43,23 @@ not_false true e = refl
 not_false false e = absurd (true≢false e)
 
 -- two numbers that are alike are there, and one
-pub alike_true : (a b : Option ℕ) → alike a b ≡ true → (l : ℕ) × (a ≡ some l) × (b ≡ some l)
-alike_true none b e = absurd (true≢false (sym e))
-alike_true (some k) none e = absurd (true≢false (sym e))
-alike_true (some k) (some l) e = (l, ap some (eqb_true k l e), refl)
+pub alike_true : (a b : Option ℕ) → alike a b ≡ true → (l : ℕ) × (a ≡ Some l) × (b ≡ Some l)
+alike_true None b e = absurd (true≢false (sym e))
+alike_true (Some k) None e = absurd (true≢false (sym e))
+alike_true (Some k) (Some l) e = (l, ap Some (eqb_true k l e), refl)
 
-pub alike_self : (l : ℕ) → alike (some l) (some l) ≡ true
+pub alike_self : (l : ℕ) → alike (Some l) (Some l) ≡ true
 alike_self l = eqb_self l
 
-pub alike-none : (a : Option ℕ) → alike a none ≡ false
-alike-none none = refl
-alike-none (some l) = refl
+pub alike-none : (a : Option ℕ) → alike a None ≡ false
+alike-none None = refl
+alike-none (Some l) = refl
 
 pub alike_eq : (a b : Option ℕ) → alike a b ≡ true → a ≡ b
 alike_eq a b e = let (l, u, v) = alike_true a b e in u ∙ sym v
 
 -- the instruction whose label is l
-pub label_is : (i : Ins) (l : ℕ) → label_of i ≡ some l → i ≡ label l
+pub label_is : (i : Ins) (l : ℕ) → label_of i ≡ Some l → i ≡ label l
 label_is (load d v) l e = cc
 label_is (comp c o d a b) l e = cc
 label_is (label k) l e = cc

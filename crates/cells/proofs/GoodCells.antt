@@ -18,18 +18,18 @@ use Rattle.cells.specs.Ins.{Const, quad, bool, f64, i32, u32, fx}
 use Rattle.cells.specs.Table.{rows}
 use Rattle.cells.specs.View.{bool_number, load_cell}
 use Rattle.cells.specs.WellFormed.{InstructionGood, EventGood}
-use Rattle.cells.specs.declared.refusal.Checked.TheVariants.{Good}
 use Rattle.cells.proofs.Checks.{instruction_good, event_good, head-good, four_true, head_fits, head_room}
 use Rattle.cells.proofs.Functions.{new_head-counts}
+use Rattle.std.specs.Prelude.{Ok}
 
 -- whether a cell passes has nothing to do with its position
-pub instruction_anywhere : (p d : ℕ) (c : Cell) → instruction_check p d c ≡ Good → InstructionGood c
+pub instruction_anywhere : (p d : ℕ) (c : Cell) → instruction_check p d c ≡ Ok tt → InstructionGood c
 instruction_anywhere p d c g q e = (instruction_good q e c).1 ((instruction_good p d c).0 g)
 
-pub event_anywhere : (p d : ℕ) (c : Cell) → event_check p d c ≡ Good → EventGood c
+pub event_anywhere : (p d : ℕ) (c : Cell) → event_check p d c ≡ Ok tt → EventGood c
 event_anywhere p d c g q e = (event_good q e c).1 ((event_good p d c).0 g)
 
-pub head_anywhere : (p d after : ℕ) (c : Cell) → head_check p d after c ≡ Good → (q e : ℕ) → head_check q e after c ≡ Good
+pub head_anywhere : (p d after : ℕ) (c : Cell) → head_check p d after c ≡ Ok tt → (q e : ℕ) → head_check q e after c ≡ Ok tt
 head_anywhere p d after c g q e = (head-good q e after c).1 ((head-good p d after c).0 g)
 
 -- the cell that loads a constant into a register passes, and has 16 bytes
@@ -76,8 +76,8 @@ new_head-kept (a ∷ b ∷ c ∷ d ∷ e ∷ f ∷ []) n m l = absurd (omega ari
 new_head-kept (a ∷ b ∷ c ∷ d ∷ e ∷ f ∷ g ∷ t) n m l = (refl, refl)
 
 -- it passes with room for as many cells, if the counts are within the limits
-pub new_head-good : (p d after : ℕ) (h : Cell) → head_check p d after h ≡ Good → 7 ≤ length h → (n m : ℕ) → n ≤ max_instructions → m ≤ max_events
-    → (room : ℕ) → n + m ≤ room → (q e : ℕ) → head_check q e room (new_head h n m) ≡ Good
+pub new_head-good : (p d after : ℕ) (h : Cell) → head_check p d after h ≡ Ok tt → 7 ≤ length h → (n m : ℕ) → n ≤ max_instructions → m ≤ max_events
+    → (room : ℕ) → n + m ≤ room → (q e : ℕ) → head_check q e room (new_head h n m) ≡ Ok tt
 unfolding rows
 new_head-good p d after h g l n m u v room r q e =
     let w = (head-good p d after h).0 g in
@@ -87,7 +87,7 @@ new_head-good p d after h g l n m u v room r q e =
     (head-good q e room (new_head h n m)).1 (rw (b, x, y, t.0, le-leb n max_instructions u, le-leb m max_events v, le-leb (n + m) room r), rw s w.1)
 
 -- a head that passes does so with more room
-pub head_wider : (p d after more : ℕ) (h : Cell) → head_check p d after h ≡ Good → after ≤ more → head_check p d more h ≡ Good
+pub head_wider : (p d after more : ℕ) (h : Cell) → head_check p d after h ≡ Ok tt → after ≤ more → head_check p d more h ≡ Ok tt
 head_wider p d after more h g l =
     let n : ℕ = code_count h + event_count h in
     let (u, v, r) = head_fits p d after h g in

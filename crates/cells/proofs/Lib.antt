@@ -13,3 +13,4 @@ pub mod GoodCells
 pub mod Spans
 pub mod Going
 pub mod WiderRegisters
+pub mod Walking

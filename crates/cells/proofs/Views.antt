@@ -2,7 +2,6 @@
 -- head or event is viewed as a barrier.
 use mathlib.Core.Path.{◌≡◌, refl, ap, ap₂, sym, ◌∙◌}
 use mathlib.Core.Bool.{Bool, true, false, false≢true, cond, ◌&&◌}
-use mathlib.Core.Option.{none, some}
 use mathlib.Core.List.{List, [], ◌∷◌}
 use Prim.Native.Nat.{ℕ, zero, suc, ◌+◌, ◌*◌, ◌/◌, ◌%◌, ◌≤◌, ◌<◌}
 use native.Mathlib.Omega.{arith}
@@ -22,11 +21,11 @@ use Rattle.cells.specs.declared.table.Kind.{Kind}
 use Rattle.cells.specs.declared.table.Kind.TheVariants.{Reg, OptReg}
 use Rattle.cells.specs.declared.table.Class.{Class}
 use Rattle.cells.specs.declared.table.Class.TheVariants.{NoCommand, LoadQ, LoadBool, LoadF64, LoadI32, LoadU32, LoadFx, Unary, Binary, Label, Jmp, JmpIf, Ret, Act, ActDst, ActOptDst}
-use Rattle.cells.specs.declared.refusal.Checked.TheVariants.{Good}
 use Rattle.cells.proofs.Every.{at_any}
 use Rattle.cells.proofs.Facts.{and_true, of_T}
 use Rattle.cells.proofs.Rows.{kind_of_number, no_class}
 use Rattle.cells.proofs.Checks.{instruction_good, event_good, head-good, four_true}
+use Rattle.std.specs.Prelude.{Ok, None, Some}
 
 -- ---- a load cell
 
@@ -104,7 +103,7 @@ rows_start : (n : ℕ) → n < 84 → starts (registers_of (class_of n)) (row_of
 unfolding rows row_starts class_of starts registers_of
 rows_start n h = of_T (starts (registers_of (row_at n).class) (row_of n)) (at_any (row NoCommand []) row_starts rows tt n h)
 
-below_some : (t : Bool) (r : ℕ) → r < registers → Below (cond t none (some r))
+below_some : (t : Bool) (r : ℕ) → r < registers → Below (cond t None (Some r))
 below_some true r h = tt
 below_some false r h = h
 
@@ -133,7 +132,7 @@ class_registers Act c r = tt
 class_registers ActDst c r = ltb-true _ _ r.0
 class_registers ActOptDst c r = below_optional c r
 
-pub view-registers : (p d : ℕ) (c : Cell) → instruction_check p d c ≡ Good → Registers (view c)
+pub view-registers : (p d : ℕ) (c : Cell) → instruction_check p d c ≡ Ok tt → Registers (view c)
 unfolding view
 view-registers p d c g =
     let w = (instruction_good p d c).0 g in
@@ -147,18 +146,18 @@ of_class : (c : Cell) {k : Class} → class_of (byte c 0) ≡ k → view c ≡ v
 unfolding view
 of_class c e = ap (λ (k : Class). view_as k c) e
 
-pub head-view : (p d after : ℕ) (c : Cell) → head_check p d after c ≡ Good → view c ≡ act c none true
+pub head-view : (p d after : ℕ) (c : Cell) → head_check p d after c ≡ Ok tt → view c ≡ act c None true
 head-view p d after c g =
     let t = four_true (eqb (byte c 0) 0xf0) (leb (code_count c) max_instructions) (leb (event_count c) max_events) (leb (code_count c + event_count c) after) ((head-good p d after c).0 g).0 in
     let e : byte c 0 ≡ 0xf0 = eqb-true _ _ t.0 in
     of_class c (ap class_of e ∙ no_class 0xf0 (omega arith))
 
 -- a Borrow event's kind is no command, a Write event's is the number of Assert
-pub event_view : (p d : ℕ) (c : Cell) → event_check p d c ≡ Good → view c ≡ act c none true
+pub event_view : (p d : ℕ) (c : Cell) → event_check p d c ≡ Ok tt → view c ≡ act c None true
 unfolding class_of rows
 event_view p d c g = by_kind (byte c 0) refl (leb-true _ _ ((event_good p d c).0 g).0)
   where
-    by_kind : (n : ℕ) → byte c 0 ≡ n → n ≤ 1 → view c ≡ act c none true
+    by_kind : (n : ℕ) → byte c 0 ≡ n → n ≤ 1 → view c ≡ act c None true
     by_kind zero e l = of_class c (ap class_of e)
-    by_kind (suc zero) e l = of_class c (ap class_of e) ∙ ap (λ (n : ℕ). act c none (leb n 0x10)) e
+    by_kind (suc zero) e l = of_class c (ap class_of e) ∙ ap (λ (n : ℕ). act c None (leb n 0x10)) e
     by_kind (suc (suc n)) e l = absurd (omega arith)

@@ -16,12 +16,12 @@ use Rattle.cells.specs.Check.{registers, present, operand_ok, operands_ok, is_co
 use Rattle.cells.specs.Table.{row_of, width_of}
 use Rattle.cells.specs.declared.table.Kind.{Kind}
 use Rattle.cells.specs.declared.table.Kind.TheVariants.{Reg, OptReg, Flag, Quad, Two, Four, Eight, Site}
-use Rattle.cells.specs.declared.refusal.Checked.{Checked}
-use Rattle.cells.specs.declared.refusal.Checked.TheVariants.{Good, Refused}
 use Rattle.cells.specs.declared.refusal.Refusal.{Refusal}
 use Rattle.cells.specs.declared.refusal.Refusal.TheVariants.{UnknownCommand, Operand}
 use Rattle.cells.proofs.Answers.{refused-good}
 use Rattle.cells.proofs.Facts.{by_test, and_true}
+use Rattle.std.specs.Prelude.{Ok, Err}
+use Rattle.cells.specs.Checked.{Checked}
 
 -- ---- with a limit
 
@@ -41,7 +41,7 @@ operands_below limit (k ∷ ks) c at = operand_below limit k c at && operands_be
 
 abbrev pub instruction_below : ℕ → ℕ → ℕ → Cell → Checked
 instruction_below limit position d c =
-    cond (is_command c) (unless (operands_below limit (row_of (byte c 0)) c 1) (Operand position d)) (Refused (UnknownCommand position d))
+    cond (is_command c) (unless (operands_below limit (row_of (byte c 0)) c 1) (Operand position d)) (Err (UnknownCommand position d))
 
 -- ---- at today's
 
@@ -61,24 +61,24 @@ operands_today (k ∷ ks) c at = ap₂ (λ (a b : Bool). a && b) (operand_today 
 
 pub instruction_today : (position d : ℕ) (c : Cell) → instruction_below registers position d c ≡ instruction_check position d c
 unfolding instruction_check
-instruction_today position d c = ap (λ (b : Bool). cond (is_command c) (unless b (Operand position d)) (Refused (UnknownCommand position d))) (operands_today (row_of (byte c 0)) c 1)
+instruction_today position d c = ap (λ (b : Bool). cond (is_command c) (unless b (Operand position d)) (Err (UnknownCommand position d))) (operands_today (row_of (byte c 0)) c 1)
 
 -- ---- below a lower one
 
 -- the same answer, or 4 before
 abbrev pub AsBefore : Checked → Checked → Type 0
-AsBefore before now = (before ≡ now) ⊎ ((position : ℕ) × (d : ℕ) × (before ≡ Refused (Operand position d)))
+AsBefore before now = (before ≡ now) ⊎ ((position : ℕ) × (d : ℕ) × (before ≡ Err (Operand position d)))
 
 -- of two checks one after another
 pub or_as_before : (a a' b b' : Checked) → AsBefore a a' → AsBefore b b' → AsBefore (or_else a b) (or_else a' b')
-or_as_before Good a' b b' (inl e) (inl g) = inl (g ∙ ap (λ (r : Checked). or_else r b') e)
-or_as_before Good a' b b' (inl e) (inr q) = inr q
-or_as_before Good a' b b' (inr (p, d, e)) h = absurd (refused-good (sym e))
-or_as_before (Refused x) a' b b' (inl e) h = inl (ap (λ (r : Checked). or_else r b') e)
-or_as_before (Refused x) a' b b' (inr q) h = inr q
+or_as_before (Ok tt) a' b b' (inl e) (inl g) = inl (g ∙ ap (λ (r : Checked). or_else r b') e)
+or_as_before (Ok tt) a' b b' (inl e) (inr q) = inr q
+or_as_before (Ok tt) a' b b' (inr (p, d, e)) h = absurd (refused-good (sym e))
+or_as_before (Err x) a' b b' (inl e) h = inl (ap (λ (r : Checked). or_else r b') e)
+or_as_before (Err x) a' b b' (inr q) h = inr q
 
 -- behind a test
-pub test_as_before : (t : Bool) (a a' : Checked) (x : Refusal) → AsBefore a a' → AsBefore (cond t a (Refused x)) (cond t a' (Refused x))
+pub test_as_before : (t : Bool) (a a' : Checked) (x : Refusal) → AsBefore a a' → AsBefore (cond t a (Err x)) (cond t a' (Err x))
 test_as_before true a a' x h = h
 test_as_before false a a' x h = inl refl
 

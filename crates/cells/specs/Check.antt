@@ -1,15 +1,14 @@
 -- Promise: the check of one cell (document 01, 'Answers of the operations'): 2 a head whose first byte is not F0, or whose counts pass a limit or the
 -- image's end; 3 an unknown command or event kind; 4 an operand out of range, or a spare byte or an absent value not zero.
-use Rattle.std.specs.Prelude.{ℕ, ◌+◌, List, [], ◌∷◌, Bool, true, cond, ◌&&◌, ltb, leb, eqb, drop}
+use Rattle.std.specs.Prelude.{ℕ, ◌+◌, List, [], ◌∷◌, Bool, true, cond, ◌&&◌, ltb, leb, eqb, drop, Err}
 use Rattle.cells.specs.Bytes.{byte, half, word, zeros}
 use Rattle.cells.specs.Cells.{Cell}
 use Rattle.cells.specs.Table.{row_of, width_of, event_row, head_row}
 use Rattle.cells.specs.Answers.{unless}
 use Rattle.cells.specs.declared.table.Kind.{Kind}
 use Rattle.cells.specs.declared.table.Kind.TheVariants.{Reg, OptReg, Flag, Quad, Two, Four, Eight, Site}
-use Rattle.cells.specs.declared.refusal.Checked.{Checked}
-use Rattle.cells.specs.declared.refusal.Checked.TheVariants.{Refused}
 use Rattle.cells.specs.declared.refusal.Refusal.TheVariants.{Head, UnknownCommand, Operand}
+use Rattle.cells.specs.Checked.{Checked}
 
 -- the limits: registers are 0 to 1,023 (document 02, W7; document 01 had 0 to 255), at most 2,048 instructions and 1,024 events a function, at
 -- most 65,536 bytes an image
@@ -59,11 +58,11 @@ is_event_kind c = leb (byte c 0) 1
 -- the cell d of the image, in the function at a position
 unfoldable pub instruction_check : ℕ → ℕ → Cell → Checked
 instruction_check position d c =
-    cond (is_command c) (unless (row_ok (byte c 0) c) (Operand position d)) (Refused (UnknownCommand position d))
+    cond (is_command c) (unless (row_ok (byte c 0) c) (Operand position d)) (Err (UnknownCommand position d))
 
 unfoldable pub event_check : ℕ → ℕ → Cell → Checked
 event_check position d c =
-    cond (is_event_kind c) (unless (row_ok event_row c) (Operand position d)) (Refused (UnknownCommand position d))
+    cond (is_event_kind c) (unless (row_ok event_row c) (Operand position d)) (Err (UnknownCommand position d))
 
 -- a head: F0, the name, the count of instruction cells and that of event cells
 abbrev pub code_count : Cell → ℕ
@@ -79,4 +78,4 @@ is_head after c =
 
 unfoldable pub head_check : ℕ → ℕ → ℕ → Cell → Checked
 head_check position d after c =
-    cond (is_head after c) (unless (row_ok head_row c) (Operand position d)) (Refused (Head position d))
+    cond (is_head after c) (unless (row_ok head_row c) (Operand position d)) (Err (Head position d))

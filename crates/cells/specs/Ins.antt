@@ -1,6 +1,5 @@
 -- Promise: an instruction cell by what its run and the passes need of it.
-use Rattle.std.specs.Prelude.{Bool, false, ℕ, eqb}
-use Rattle.std.proofs.Math.Option.{Option, none, some}
+use Rattle.std.specs.Prelude.{Bool, false, ℕ, eqb, Option, None, Some}
 use Rattle.leaves.specs.declared.quad.Quad.{Quad}
 use Rattle.cells.specs.Cells.{Cell}
 
@@ -26,16 +25,16 @@ pub data Ins : Type 0 where
 
 -- the name of a Label
 abbrev pub label_of : Ins → Option ℕ
-label_of (load d v) = none
-label_of (comp c o d a b) = none
-label_of (label l) = some l
-label_of (jmp l) = none
-label_of (jmp_if c l) = none
-label_of (ret s) = none
-label_of (act c d b) = none
+label_of (load d v) = None
+label_of (comp c o d a b) = None
+label_of (label l) = Some l
+label_of (jmp l) = None
+label_of (jmp_if c l) = None
+label_of (ret s) = None
+label_of (act c d b) = None
 
 -- two numbers are there, and equal
 abbrev pub alike : Option ℕ → Option ℕ → Bool
-alike none m = false
-alike (some k) none = false
-alike (some k) (some l) = eqb k l
+alike None m = false
+alike (Some k) None = false
+alike (Some k) (Some l) = eqb k l

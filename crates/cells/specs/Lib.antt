@@ -14,3 +14,4 @@ pub mod Assembler
 pub mod WellFormed
 pub mod Spans
 pub mod RegisterLimit
+pub mod Checked

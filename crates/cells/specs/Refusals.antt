@@ -1,12 +1,10 @@
 -- Promise: what each refusal is by document 01 ('Answers of the operations'): its number, the function's position and a detail. The detail is the
 -- cell's position in the image for 2 to 4, the site for 11 to 13, 21, 22, 24 to 26, else 0.
-use Rattle.std.specs.Prelude.{ℕ}
+use Rattle.std.specs.Prelude.{ℕ, Ok, Err, Option, None, Some}
 use Rattle.cells.specs.declared.refusal.Refusal.{Refusal}
 use Rattle.cells.specs.declared.refusal.Refusal.TheVariants.{Length, Head, UnknownCommand, Operand, OutputTooShort, ActivationSiteRepeated, ActivationSiteOnWrite, ActivationSiteClaimedTwice, ActivationSitesDiffer, WriteSiteRepeated, WriteSiteOnBorrow, WriteWithoutSite, WriteSiteUnclaimed, StoreVarSiteClaimedTwice, WriteSiteUnknown}
 use Rattle.cells.specs.declared.refusal.Numbers.{Numbers}
-use Rattle.cells.specs.declared.refusal.Checked.{Checked}
-use Rattle.cells.specs.declared.refusal.Checked.TheVariants.{Good, Refused}
-use Rattle.std.proofs.Math.Option.{Option, none, some}
+use Rattle.cells.specs.Checked.{Checked}
 
 abbrev pub numbered : ℕ → ℕ → ℕ → Numbers
 numbered n p d = record { number = n; position = p; detail = d }
@@ -30,5 +28,5 @@ numbers_of (WriteSiteUnknown p d) = numbered 26 p d
 
 -- an answer by the document: nothing refused, or a refusal's number, position and detail
 abbrev pub numbers_in : Checked → Option Numbers
-numbers_in Good = none
-numbers_in (Refused x) = some (numbers_of x)
+numbers_in (Ok tt) = None
+numbers_in (Err x) = Some (numbers_of x)

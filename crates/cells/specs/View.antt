@@ -1,11 +1,8 @@
 -- Promise: what an instruction cell is, by the table of commands; and the cell that loads a constant.
-use Rattle.std.specs.Prelude.{Bool, true, false, cond, not, ◌∷◌, ◌++◌, ℕ, ◌-◌, ◌<◌, eqb, leb, replicate}
-use Rattle.std.proofs.Math.Option.{Option, none, some}
+use Rattle.std.specs.Prelude.{Bool, true, false, cond, not, ◌∷◌, ◌++◌, ℕ, ◌-◌, ◌<◌, eqb, leb, replicate, Option, Some, None}
 use Rattle.leaves.specs.Quads.{number_of, quad_of}
 use Rattle.leaves.specs.declared.quad.Quad.{Quad}
 use Rattle.leaves.specs.declared.quad.Quad.TheVariants.{S}
-use Rattle.leaves.specs.declared.quad.QuadResult.{QuadResult}
-use Rattle.leaves.specs.declared.quad.QuadResult.TheVariants.{Value, Absent}
 use Rattle.cells.specs.Bytes.{byte, half, word, long, bytes}
 use Rattle.cells.specs.Cells.{Cell}
 use Rattle.cells.specs.Ins.{Const, quad, bool, f64, i32, u32, fx, Ins, load, comp, label, jmp, jmp_if, ret, act}
@@ -15,13 +12,13 @@ use Rattle.cells.specs.declared.table.Class.{Class}
 use Rattle.cells.specs.declared.table.Class.TheVariants.{NoCommand, LoadQ, LoadBool, LoadF64, LoadI32, LoadU32, LoadFx, Unary, Binary, Label, Jmp, JmpIf, Ret, Act, ActDst, ActOptDst}
 
 -- a quad by its number; a number above 3, which the cell check refuses, is read as S
-abbrev pub read_quad : QuadResult → Quad
-read_quad (Value q) = q
-read_quad Absent = S
+abbrev pub read_quad : Option Quad → Quad
+read_quad (Some q) = q
+read_quad None = S
 
 -- the register behind a presence byte
 abbrev pub optional : Cell → Option ℕ
-optional c = cond (eqb (byte c 1) 0) none (some (half c 2))
+optional c = cond (eqb (byte c 1) 0) None (Some (half c 2))
 
 -- commands 01 to 10 are the barriers
 abbrev pub barrier : Cell → Bool
@@ -30,7 +27,7 @@ barrier c = leb (byte c 0) 0x10
 -- What is no command never passes the check of an instruction cell. It is read as a barrier: so a fold over all cells of an image leaves its
 -- heads and events as they are, and knows nothing behind a head
 abbrev pub view_as : Class → Cell → Ins
-view_as NoCommand c = act c none true
+view_as NoCommand c = act c None true
 view_as LoadQ c = load (half c 1) (quad (read_quad (quad_of (byte c 3))))
 view_as LoadBool c = load (half c 1) (bool (not (eqb (byte c 3) 0)))
 view_as LoadF64 c = load (half c 1) (f64 (long c 3))
@@ -43,8 +40,8 @@ view_as Label c = label (half c 1)
 view_as Jmp c = jmp (half c 1)
 view_as JmpIf c = jmp_if (half c 1) (half c 3)
 view_as Ret c = ret (optional c)
-view_as Act c = act c none (barrier c)
-view_as ActDst c = act c (some (half c 1)) (barrier c)
+view_as Act c = act c None (barrier c)
+view_as ActDst c = act c (Some (half c 1)) (barrier c)
 view_as ActOptDst c = act c (optional c) (barrier c)
 
 -- what a cell is
@@ -72,8 +69,8 @@ load_cell d (fx n) = load_bytes 0x2A d 4 n
 -- ---- the registers that a cell names are below the limit
 
 abbrev pub Below : Option ℕ → Type 0
-Below none = Unit {0}
-Below (some r) = r < registers
+Below None = Unit {0}
+Below (Some r) = r < registers
 
 abbrev pub Registers : Ins → Type 0
 Registers (load d v) = d < registers

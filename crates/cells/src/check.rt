@@ -5,7 +5,7 @@ ghost use Rattle.cells.specs.Table.{width_of, row_of, total};
 ghost use Rattle.cells.specs.Answers.{unless as «unless_of»};
 ghost use Rattle.cells.specs.Check.{operand_ok, row_ok, present as «present_of», instruction_check, event_check, head_check};
 
-use crate::refusal::{Checked, Refusal};
+use crate::refusal::Refusal;
 use crate::table::Kind;
 use crate::{read, table};
 
@@ -50,11 +50,7 @@ pub fn operand_ok(k: Kind, c: &[u8], at: usize) -> bool
         Kind::Reg => read::half(c, at) < REGISTERS,
         Kind::OptReg => {
             let v = read::half(c, at + 1);
-            if present(c[at], v) {
-                v < REGISTERS
-            } else {
-                false
-            }
+            present(c[at], v) && v < REGISTERS
         }
         Kind::Flag => c[at] < 2,
         Kind::Quad => c[at] < 4,
@@ -70,14 +66,7 @@ pub fn zeros_from(c: &[u8], at: usize) -> bool
     requires { at ≤ length c.now }
     ensures { result ≡ zeros (drop at c.now) }
 {
-    let mut i = at;
-    while i < c.len() {
-        if c[i] != 0 {
-            return false;
-        }
-        i += 1;
-    }
-    true
+    c[at..].iter().all(|&b| b == 0)
 }
 
 // The operands of a row, from the cell's second byte on, and zeros behind them. (Of a cell's bytes the operands must be there; the bytes behind
@@ -86,10 +75,11 @@ pub fn operands_ok(c: &[u8], row: usize) -> bool
     requires { (1 + total (row_of row) ≤ length c.now) × (row < 84) }
     ensures { result ≡ row_ok row c.now }
 {
+    // What is left are the digits of the operands to come; the place moves on by each operand's width, so the turns have no index.
     let mut left = table::row_at(row) / 16;
     let mut at = 1;
     while left != 0 {
-        let k = table::kind_of(left % 16);
+        let k = Kind::from(left % 16);
         if !operand_ok(k, c, at) {
             return false;
         }
@@ -99,38 +89,32 @@ pub fn operands_ok(c: &[u8], row: usize) -> bool
     zeros_from(c, at)
 }
 
-fn unless(ok: bool, r: Refusal) -> Checked
+fn unless(ok: bool, r: Refusal) -> Result<(), Refusal>
     ensures { result ≡ unless_of ok r }
 {
-    if ok {
-        Checked::Good
-    } else {
-        Checked::Refused(r)
-    }
+    if ok { Ok(()) } else { Err(r) }
 }
 
-// An instruction cell, the cell at of the image, in the function at a position.
-pub fn check_instruction(c: &[u8], position: usize, at: usize) -> Checked
+// An instruction cell, the cell at of the image, in the function at a position. (A part of the image's bytes, so no array: that would take a
+// test, which cannot fail, at each call.)
+pub fn check_instruction(c: &[u8], position: usize, at: usize) -> Result<(), Refusal>
     requires { length c.now ≡ 16 }
     ensures { result ≡ instruction_check position at c.now }
 {
-    let command = read::wide(c[0]);
-    if command == 0 {
-        return Checked::Refused(Refusal::UnknownCommand(position, at));
-    }
-    if LAST_COMMAND < command {
-        return Checked::Refused(Refusal::UnknownCommand(position, at));
+    let command = usize::from(c[0]);
+    if command == 0 || LAST_COMMAND < command {
+        return Err(Refusal::UnknownCommand(position, at));
     }
     unless(operands_ok(c, command), Refusal::Operand(position, at))
 }
 
 // An event cell: its kind is Borrow or Write.
-pub fn check_event(c: &[u8], position: usize, at: usize) -> Checked
+pub fn check_event(c: &[u8], position: usize, at: usize) -> Result<(), Refusal>
     requires { length c.now ≡ 16 }
     ensures { result ≡ event_check position at c.now }
 {
     if LAST_KIND < c[0] {
-        return Checked::Refused(Refusal::UnknownCommand(position, at));
+        return Err(Refusal::UnknownCommand(position, at));
     }
     unless(
         operands_ok(c, table::EVENT_ROW),
@@ -139,23 +123,14 @@ pub fn check_event(c: &[u8], position: usize, at: usize) -> Checked
 }
 
 // A head with so many cells behind it: its counts are within the limits and within these.
-pub fn check_head(c: &[u8], position: usize, at: usize, after: usize) -> Checked
+pub fn check_head(c: &[u8], position: usize, at: usize, after: usize) -> Result<(), Refusal>
     requires { 7 ≤ length c.now }
     ensures { result ≡ head_check position at after c.now }
 {
     let code = read::half(c, 3);
     let events = read::half(c, 5);
-    if c[0] != HEAD {
-        return Checked::Refused(Refusal::Head(position, at));
-    }
-    if MAX_INSTRUCTIONS < code {
-        return Checked::Refused(Refusal::Head(position, at));
-    }
-    if MAX_EVENTS < events {
-        return Checked::Refused(Refusal::Head(position, at));
-    }
-    if after < code + events {
-        return Checked::Refused(Refusal::Head(position, at));
+    if c[0] != HEAD || MAX_INSTRUCTIONS < code || MAX_EVENTS < events || after < code + events {
+        return Err(Refusal::Head(position, at));
     }
     unless(zeros_from(c, HEAD_BYTES), Refusal::Operand(position, at))
 }

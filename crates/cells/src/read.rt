@@ -8,20 +8,12 @@ use crate::buffer;
 // Bytes in a cell.
 pub const CELL: usize = 16;
 
-pub fn wide(x: u8) -> usize
-    ensures { (result ≡ x) × (result < 256) }
-{
-    x as usize
-}
-
-// The number in 2 bytes from a position on.
+// The number in 2 bytes from a position on. (Three functions, for 2, 4 and 8: each is one call at its own type.)
 pub fn half(c: &[u8], at: usize) -> usize
     requires { at + 2 ≤ length c.now }
     ensures { (result ≡ half_of c.now at) × (result < 65536) }
 {
-    let low = wide(c[at]);
-    let high = wide(c[at + 1]);
-    low + 256 * high
+    usize::from(u16::from_le_bytes([c[at], c[at + 1]]))
 }
 
 // In 4 bytes.
@@ -29,9 +21,7 @@ pub fn word(c: &[u8], at: usize) -> usize
     requires { at + 4 ≤ length c.now }
     ensures { (result ≡ word_of c.now at) × (result < 4294967296) }
 {
-    let low = half(c, at);
-    let high = half(c, at + 2);
-    low + 65536 * high
+    u32::from_le_bytes([c[at], c[at + 1], c[at + 2], c[at + 3]]) as usize
 }
 
 // In 8 bytes.
@@ -39,9 +29,16 @@ pub fn long(c: &[u8], at: usize) -> usize
     requires { at + 8 ≤ length c.now }
     ensures { result ≡ long_of c.now at }
 {
-    let low = word(c, at);
-    let high = word(c, at + 4);
-    low + 4294967296 * high
+    u64::from_le_bytes([
+        c[at],
+        c[at + 1],
+        c[at + 2],
+        c[at + 3],
+        c[at + 4],
+        c[at + 5],
+        c[at + 6],
+        c[at + 7],
+    ]) as usize
 }
 
 // Writes a number in 2 bytes.
@@ -49,8 +46,7 @@ pub fn put_half(c: &mut [u8], at: usize, n: usize)
     requires { (at + 2 ≤ length c.old) × (n < 65536) }
     ensures { c.new ≡ set (set c.old at (n % 256)) (at + 1) (n / 256) }
 {
-    c[at] = (n % 256) as u8;
-    c[at + 1] = (n / 256) as u8;
+    [c[at], c[at + 1]] = (n as u16).to_le_bytes();
 }
 
 // Writes the cell at the position k of src over the one at the position j of dst.

@@ -22,13 +22,6 @@ pub enum Refusal {
     WriteSiteUnknown(usize, usize),
 }
 
-// The answer of a check.
-#[derive(Clone, Copy)]
-pub enum Checked {
-    Good,
-    Refused(Refusal),
-}
-
 // A refusal as document 01 numbers it.
 #[derive(Clone, Copy)]
 pub struct Numbers {
@@ -47,24 +40,27 @@ fn numbered(number: usize, position: usize, detail: usize) -> Numbers
     }
 }
 
-pub fn numbers_of(r: Refusal) -> Numbers
-    ensures { result ≡ numbers_of r }
-{
-    match r {
-        Refusal::Length => numbered(1, 0, 0),
-        Refusal::Head(p, d) => numbered(2, p, d),
-        Refusal::UnknownCommand(p, d) => numbered(3, p, d),
-        Refusal::Operand(p, d) => numbered(4, p, d),
-        Refusal::OutputTooShort => numbered(5, 0, 0),
-        Refusal::ActivationSiteRepeated(p, d) => numbered(11, p, d),
-        Refusal::ActivationSiteOnWrite(p, d) => numbered(12, p, d),
-        Refusal::ActivationSiteClaimedTwice(p, d) => numbered(13, p, d),
-        Refusal::ActivationSitesDiffer(p) => numbered(14, p, 0),
-        Refusal::WriteSiteRepeated(p, d) => numbered(21, p, d),
-        Refusal::WriteSiteOnBorrow(p, d) => numbered(22, p, d),
-        Refusal::WriteWithoutSite(p) => numbered(23, p, 0),
-        Refusal::WriteSiteUnclaimed(p, d) => numbered(24, p, d),
-        Refusal::StoreVarSiteClaimedTwice(p, d) => numbered(25, p, d),
-        Refusal::WriteSiteUnknown(p, d) => numbered(26, p, d),
+// What document 01 says of each.
+impl From<Refusal> for Numbers {
+    ghost from_gives = { λ r n. n ≡ numbers_of r };
+
+    fn from(r: Refusal) -> Numbers {
+        match r {
+            Refusal::Length => numbered(1, 0, 0),
+            Refusal::Head(p, d) => numbered(2, p, d),
+            Refusal::UnknownCommand(p, d) => numbered(3, p, d),
+            Refusal::Operand(p, d) => numbered(4, p, d),
+            Refusal::OutputTooShort => numbered(5, 0, 0),
+            Refusal::ActivationSiteRepeated(p, d) => numbered(11, p, d),
+            Refusal::ActivationSiteOnWrite(p, d) => numbered(12, p, d),
+            Refusal::ActivationSiteClaimedTwice(p, d) => numbered(13, p, d),
+            Refusal::ActivationSitesDiffer(p) => numbered(14, p, 0),
+            Refusal::WriteSiteRepeated(p, d) => numbered(21, p, d),
+            Refusal::WriteSiteOnBorrow(p, d) => numbered(22, p, d),
+            Refusal::WriteWithoutSite(p) => numbered(23, p, 0),
+            Refusal::WriteSiteUnclaimed(p, d) => numbered(24, p, d),
+            Refusal::StoreVarSiteClaimedTwice(p, d) => numbered(25, p, d),
+            Refusal::WriteSiteUnknown(p, d) => numbered(26, p, d),
+        }
     }
 }

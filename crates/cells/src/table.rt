@@ -44,6 +44,7 @@ pub const EVENT_ROW: usize = 0x52;
 
 // The row of each command byte, then an event's and a head's. The lowest digit is the class, the further ones the operands. (A `match`, since
 // an array would be set up anew at each call.)
+#[tactic(auto, unfolding(crate::specs::Table::rows))]
 pub fn row_at(row: usize) -> u32
     requires { row < 84 }
     ensures { result ≡ row_number (row_at row) }
@@ -140,49 +141,57 @@ pub fn row_at(row: usize) -> u32
 pub fn class_of(command: u8) -> Class
     ensures { result ≡ class_of command }
 {
-    let n = command as usize;
+    let n = usize::from(command);
     if n < EVENT_ROW {
-        class_at(row_at(n) % 16)
+        Class::from(row_at(n) % 16)
     } else {
         Class::NoCommand
     }
 }
 
-fn class_at(n: u32) -> Class
-    ensures { result ≡ class_at n }
-{
-    match n {
-        1 => Class::LoadQ,
-        2 => Class::LoadBool,
-        3 => Class::LoadF64,
-        4 => Class::LoadI32,
-        5 => Class::LoadU32,
-        6 => Class::LoadFx,
-        7 => Class::Unary,
-        8 => Class::Binary,
-        9 => Class::Label,
-        10 => Class::Jmp,
-        11 => Class::JmpIf,
-        12 => Class::Ret,
-        13 => Class::Act,
-        14 => Class::ActDst,
-        15 => Class::ActOptDst,
-        _ => Class::NoCommand,
+// The class that a row's lowest digit stands for.
+impl From<u32> for Class {
+    ghost from_gives = { λ n r. r ≡ class_at n };
+
+    #[tactic(auto, unfolding(crate::specs::RowNumbers::class_at))]
+    fn from(n: u32) -> Class {
+        match n {
+            1 => Class::LoadQ,
+            2 => Class::LoadBool,
+            3 => Class::LoadF64,
+            4 => Class::LoadI32,
+            5 => Class::LoadU32,
+            6 => Class::LoadFx,
+            7 => Class::Unary,
+            8 => Class::Binary,
+            9 => Class::Label,
+            10 => Class::Jmp,
+            11 => Class::JmpIf,
+            12 => Class::Ret,
+            13 => Class::Act,
+            14 => Class::ActDst,
+            15 => Class::ActOptDst,
+            _ => Class::NoCommand,
+        }
     }
 }
 
-pub fn kind_of(n: u32) -> Kind
-    ensures { result ≡ kind_of n }
-{
-    match n {
-        1 => Kind::Reg,
-        2 => Kind::OptReg,
-        3 => Kind::Flag,
-        4 => Kind::Quad,
-        5 => Kind::Two,
-        6 => Kind::Four,
-        7 => Kind::Eight,
-        _ => Kind::Site,
+// The kind that one of its further digits stands for.
+impl From<u32> for Kind {
+    ghost from_gives = { λ n r. r ≡ kind_of n };
+
+    #[tactic(auto, unfolding(crate::specs::RowNumbers::kind_of))]
+    fn from(n: u32) -> Kind {
+        match n {
+            1 => Kind::Reg,
+            2 => Kind::OptReg,
+            3 => Kind::Flag,
+            4 => Kind::Quad,
+            5 => Kind::Two,
+            6 => Kind::Four,
+            7 => Kind::Eight,
+            _ => Kind::Site,
+        }
     }
 }
 

@@ -1,6 +1,9 @@
 // The functions of an image, one after another.
-ghost use Rattle.std.specs.Prelude.{◌≡◌, ◌/◌, ◌<◌, min, length};
+ghost use Rattle.std.specs.Prelude.{◌≡◌, ◌/◌, ◌%◌, ◌<◌, length};
+ghost use Rattle.std.specs.Iterator.{YieldsFirstBy, item_count};
 ghost use Rattle.cells.specs.Spans.{SpanAt};
+ghost use Rattle.cells.specs.Cells.{cells};
+ghost use Rattle.cells.specs.Functions.{functions, function_of};
 
 use crate::read;
 use crate::read::CELL;
@@ -31,8 +34,8 @@ pub fn function_at(image: &[u8], at: usize) -> Span
     let head = CELL * at;
     let code = head + CELL;
     let cell = &image[head..code];
-    let events = code + at_most(size - code, CELL * read::half(cell, 3));
-    let end = events + at_most(size - events, CELL * read::half(cell, 5));
+    let events = code + (size - code).min(CELL * read::half(cell, 3));
+    let end = events + (size - events).min(CELL * read::half(cell, 5));
     Span {
         head,
         code,
@@ -41,8 +44,48 @@ pub fn function_at(image: &[u8], at: usize) -> Span
     }
 }
 
-fn at_most(limit: usize, x: usize) -> usize
-    ensures { result ≡ min limit x }
-{
-    if limit < x { limit } else { x }
+// A function of an image: its head, and of the cells that the head promises those that the image holds.
+#[derive(Clone, Copy)]
+pub struct Function<'a> {
+    pub head: &'a [u8],
+    pub code: &'a [u8],
+    pub events: &'a [u8],
+    // Both parts are whole cells.
+    ghost code_even: { length code.now % 16 ≡ 0 },
+    ghost events_even: { length events.now % 16 ≡ 0 },
+}
+
+// The functions of an image, one after another.
+#[derive(Drop)]
+pub struct Functions<'a>(&'a [u8]);
+
+impl<'a> Iterator for Functions<'a> {
+    type Item = Function<'a>;
+
+    ghost next_gives = { YieldsFirstBy (λ f. function_of f.head.now f.code.now f.events.now) (λ it. functions (cells it.0.now)) };
+
+    ghost remaining = { item_count (λ it. functions (cells it.0.now)) };
+
+    fn next(&mut self) -> Option<Function<'a>> {
+        let image = self.0;
+        if image.len() < CELL {
+            return None;
+        }
+        let span = function_at(image, 0);
+        self.0 = &image[span.end..];
+        Some(Function {
+            head: &image[..span.code],
+            code: &image[span.code..span.events],
+            events: &image[span.events..span.end],
+        })
+    }
+}
+
+impl<'a> Functions<'a> {
+    // Those of an image.
+    pub fn of(image: &'a [u8]) -> Self
+        ensures { result.0.now ≡ image.now }
+    {
+        Functions(image)
+    }
 }

@@ -1,7 +1,7 @@
 -- Cleanup's count, and the lengths of what it leaves.
+use Rattle.std.specs.Prelude.{None}
 use mathlib.Core.Path.{◌≡◌}
 use mathlib.Core.Bool.{false}
-use mathlib.Core.Option.{none}
 use mathlib.Core.List.{List}
 use Prim.Native.Nat.{◌+◌, ◌≤◌}
 use native.Mathlib.Omega.{arith}
@@ -23,7 +23,7 @@ clean_count_lem p =
     let p₁ : List Cell = remove_duplicate_consecutive_labels view p in
     let p₂ : List Cell = remove_unreachable_until_label view p₁ in
     let p₃ : List Cell = remove_noop_jumps view p₂ in
-    omega (arith, sub_length (sub_dedupe view none p), sub_length (sub_reach view false p₁), sub_length (sub_sweep view jump_of label_of p₂), sub_length (sub_sweep view removable_load removable_load p₃))
+    omega (arith, sub_length (sub_dedupe view None p), sub_length (sub_reach view false p₁), sub_length (sub_sweep view jump_of label_of p₂), sub_length (sub_sweep view removable_load removable_load p₃))
 
 -- nothing grows
 pub shorter : (cs : List Cell) → length (clean_code cs) ≤ length cs

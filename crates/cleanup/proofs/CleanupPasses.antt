@@ -8,13 +8,11 @@ use Rattle.cells.specs.Cells.{Cell}
 use Rattle.cells.specs.Functions.{Function}
 use Rattle.cells.specs.View.{view}
 use Rattle.cells.specs.Lists.{only, All}
-use Rattle.cells.specs.declared.refusal.Checked.TheVariants.{Good}
 use Rattle.cells.proofs.Lists.{all_each, any_yes, any_no, tally-only, tally-none, sub_all, sub_tally}
 use Rattle.cells.proofs.Facts.{by_test}
 use Rattle.sites.specs.Sites.{site_of, event_site, is_write, is_site, stands, times}
 use Rattle.sites.specs.Validators.{site_check}
 use Rattle.sites.proofs.Fit.{store_site, BorrowsAlone, WritesAlone, WriteSited, Paired, Claimed}
-use Rattle.sites.specs.declared.Site.TheVariants.{Absent, At}
 use Rattle.sites.specs.declared.Which.{Which}
 use Rattle.sites.specs.declared.Which.TheVariants.{Activation, Write}
 use Rattle.sites.proofs.Judged.{site_is, not_absent}
@@ -24,6 +22,7 @@ use Rattle.cleanup.specs.Sweeps.{removed}
 use Rattle.cleanup.specs.Cleanup.{stays, clean_code, clean_events, clean_function}
 use Rattle.cleanup.proofs.SitesSplit.{split}
 use Rattle.cleanup.proofs.EachLeft.{sub_events}
+use Rattle.std.specs.Prelude.{Some, None, Ok}
 
 abbrev pub other : Which → Which
 other Activation = Write
@@ -31,7 +30,7 @@ other Write = Activation
 
 -- an event with one site has not the other
 abbrev pub Single : Which → Cell → Type 0
-Single w e = (x : ℕ) → event_site w e ≡ At x → event_site (other w) e ≡ Absent
+Single w e = (x : ℕ) → event_site w e ≡ Some x → event_site (other w) e ≡ None
 
 single : (w : Which) (es : List Cell) → All BorrowsAlone es → All WritesAlone es → All (Single w) es
 single w [] a b = tt
@@ -42,7 +41,7 @@ single w (e ∷ es) a b = (one-site w, single w es a.1 b.1)
     one-site Write x y = by_test (is_write e) (λ z. a.0 z) (λ z. not_absent x (event_site Write e) (b.0 z) y)
 
 -- it stays exactly if its site is on none of the cells that are gone
-stays_at : (w : Which) (gone : List Cell) (e : Cell) (x : ℕ) → event_site w e ≡ At x → event_site (other w) e ≡ Absent → stays gone e ≡ not (stands (site_of w) x gone)
+stays_at : (w : Which) (gone : List Cell) (e : Cell) (x : ℕ) → event_site w e ≡ Some x → event_site (other w) e ≡ None → stays gone e ≡ not (stands (site_of w) x gone)
 stays_at Activation gone e x y z = rw (y, z) (by_test (stands (site_of Activation) x gone) (λ v. rw v) (λ v. rw v))
 stays_at Write gone e x y z = rw (y, z)
 
@@ -91,12 +90,12 @@ module _ (cs es : List Cell) (a : Paired cs es) (b : Claimed cs es) where
       part x = split (λ c. is_site x (site_of Write c)) (site_capable Write x) cs
 
 -- of a function that passes, cleanup's result passes
-pub cleanup_passes : (position : ℕ) (cs es : List Cell) → site_check position cs es ≡ Good → site_check position (clean_code cs) (clean_events cs es) ≡ Good
+pub cleanup_passes : (position : ℕ) (cs es : List Cell) → site_check position cs es ≡ Ok tt → site_check position (clean_code cs) (clean_events cs es) ≡ Ok tt
 cleanup_passes position cs es e =
     let g = (site_check_lem position cs es).0 e in
     (site_check_lem position (clean_code cs) (clean_events cs es)).1 (paired cs es g.0 g.1, claimed cs es g.0 g.1)
 
-pub clean_function_passes : (position : ℕ) (g : Function) → site_check position g.code g.events ≡ Good
-    → site_check position (clean_function g).code (clean_function g).events ≡ Good
+pub clean_function_passes : (position : ℕ) (g : Function) → site_check position g.code g.events ≡ Ok tt
+    → site_check position (clean_function g).code (clean_function g).events ≡ Ok tt
 unfolding clean_function
 clean_function_passes position g = cleanup_passes position g.code g.events

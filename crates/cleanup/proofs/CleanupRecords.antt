@@ -1,7 +1,7 @@
 -- The records theorem of cleanup.
+use Rattle.std.specs.Prelude.{None}
 use mathlib.Core.Path.{◌≡◌}
 use mathlib.Core.Bool.{false}
-use mathlib.Core.Option.{none}
 use mathlib.Core.List.{List, map}
 use Rattle.cells.specs.Cells.{Cell}
 use Rattle.cells.specs.Ins.{Ins, label_of}
@@ -23,7 +23,7 @@ use Rattle.cleanup.proofs.LabelPlaces.{once}
 -- the four sweeps, one after the other
 cleanup-same : (P : List Ins) → OnePlace P → SameRecords P (cleanup plain P)
 cleanup-same P o =
-    let P₁ : List Ins = dedupe plain none P in
+    let P₁ : List Ins = dedupe plain None P in
     let P₂ : List Ins = reach plain false P₁ in
     let P₃ : List Ins = sweep plain jump_of label_of P₂ in
     same_trans P P₁ (cleanup plain P) (duplicate_labels-same P)

@@ -7,12 +7,9 @@ use native.Mathlib.Omega.{arith}
 use Rattle.cells.specs.Cells.{Cell}
 use Rattle.cells.specs.View.{view}
 use Rattle.cells.specs.Lists.{only}
-use Rattle.cells.specs.declared.refusal.Checked.TheVariants.{Good}
 use Rattle.cells.proofs.Facts.{by_test}
 use Rattle.sites.specs.Sites.{site_of, event_site, is_site, stands, times}
 use Rattle.sites.specs.Validators.{site_check}
-use Rattle.sites.specs.declared.Site.{Site}
-use Rattle.sites.specs.declared.Site.TheVariants.{Absent, At}
 use Rattle.sites.specs.declared.Which.{Which}
 use Rattle.sites.specs.declared.Which.TheVariants.{Activation, Write}
 use Rattle.cells.proofs.Lists.{all_two, only_same, any_yes, any_no}
@@ -23,12 +20,13 @@ use Rattle.cleanup.specs.Sweeps.{removed}
 use Rattle.cleanup.specs.Cleanup.{on_gone, goes, stays, clean_code, clean_events}
 use Rattle.cleanup.proofs.KeptEvents.{kept_site, kept_event}
 use Rattle.cleanup.proofs.SitesSplit.{split}
+use Rattle.std.specs.Prelude.{Option, Some, None, Ok}
 
 -- a site that stands on one cell of the function is removed, or stands on a cell that is left
 module _ (cs left : List Cell) (same : (w : Which) (x : ℕ) → times (site_of w) x left ≡ times (site_of w) x (clean_code cs)) where
-  kept_site_lem : (w : Which) → ((x : ℕ) → times (site_of w) x cs ≤ 1) → (s : Site) → ((x : ℕ) → s ≡ At x → 1 ≤ times (site_of w) x cs) → kept_site w left s ≡ not (on_gone w (removed view cs) s)
-  kept_site_lem w once Absent u = refl
-  kept_site_lem w once (At x) u =
+  kept_site_lem : (w : Which) → ((x : ℕ) → times (site_of w) x cs ≤ 1) → (s : Option ℕ) → ((x : ℕ) → s ≡ Some x → 1 ≤ times (site_of w) x cs) → kept_site w left s ≡ not (on_gone w (removed view cs) s)
+  kept_site_lem w once None u = refl
+  kept_site_lem w once (Some x) u =
       let p = split (λ c. is_site x (site_of w c)) (site_capable w x) cs in
       let n = u x refl in let o = once x in
       by_test (stands (site_of w) x (removed view cs))
@@ -36,7 +34,7 @@ module _ (cs left : List Cell) (same : (w : Which) (x : ℕ) → times (site_of 
       (λ y. let k : times (site_of w) x left ≡ 1 = omega (arith, same w x, any_no (λ c. is_site x (site_of w c)) (removed view cs) y) in rw (y, k))
 
   -- with any cells on which the same sites stand as on those that cleanup leaves
-  pub keeps-alike : (position : ℕ) (es : List Cell) → site_check position cs es ≡ Good → only (kept_event left) es ≡ clean_events cs es
+  pub keeps-alike : (position : ℕ) (es : List Cell) → site_check position cs es ≡ Ok tt → only (kept_event left) es ≡ clean_events cs es
   unfolding clean_events kept_event
   keeps-alike position es g =
       let (a, b) = (site_check_lem position cs es).0 g in
@@ -47,13 +45,13 @@ module _ (cs left : List Cell) (same : (w : Which) (x : ℕ) → times (site_of 
       (to_all (event_site Write) (λ x. 1 ≤ times (site_of Write) x cs) es b.known))
     where
       On : Which → Cell → Type 0
-      On w e = (x : ℕ) → event_site w e ≡ At x → 1 ≤ times (site_of w) x cs
+      On w e = (x : ℕ) → event_site w e ≡ Some x → 1 ≤ times (site_of w) x cs
 
       neither : (a b : Bool) → (not a && not b) ≡ not (a || b)
       neither true b = refl
       neither false b = refl
 
-pub keeps_clean : (position : ℕ) (cs es : List Cell) → site_check position cs es ≡ Good → only (kept_event (clean_code cs)) es ≡ clean_events cs es
+pub keeps_clean : (position : ℕ) (cs es : List Cell) → site_check position cs es ≡ Ok tt → only (kept_event (clean_code cs)) es ≡ clean_events cs es
 keeps_clean position cs = keeps-alike cs (clean_code cs) (λ w x. refl) position
 
 -- no site stands where it did not

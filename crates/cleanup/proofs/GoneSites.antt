@@ -1,7 +1,6 @@
 -- The sites on the cells that the second sweep removes: gathered from the cells as they were sent, and as the definition has them.
 use mathlib.Core.Path.{◌≡◌, refl, sym, ◌∙◌, ap, ap₂, fun_ext}
 use mathlib.Core.Bool.{Bool, true, false, ◌||◌, not}
-use mathlib.Core.Option.{Option, none}
 use mathlib.Core.List.{List, [], ◌∷◌}
 use Prim.Native.Nat.{ℕ, ◌+◌, ◌/◌, ◌≤◌, ◌<◌}
 use native.Mathlib.Omega.{arith}
@@ -16,8 +15,6 @@ use Rattle.cells.proofs.Facts.{by_test, clash, and_true, alike_true}
 use Rattle.cells.proofs.Over.{over_nil}
 use Rattle.sites.specs.Sites.{site_of, event_site, site_by, sites_on}
 use Rattle.cells.specs.declared.walk.Part.TheVariants.{Code, Events}
-use Rattle.sites.specs.declared.Site.{Site}
-use Rattle.sites.specs.declared.Site.TheVariants.{Absent, At}
 use Rattle.sites.specs.declared.Which.{Which}
 use Rattle.sites.specs.declared.Which.TheVariants.{Activation, Write}
 use Rattle.sites.proofs.Counted.{sites_any}
@@ -27,6 +24,7 @@ use Rattle.cleanup.specs.Cleanup.{on_gone, stays, clean_events}
 use Rattle.cleanup.specs.Receipts.{among, spared}
 use Rattle.cleanup.specs.Output.{Kept}
 use Rattle.cleanup.proofs.Writing.{cells_cons, cells-none}
+use Rattle.std.specs.Prelude.{Option, Some, None}
 
 -- ---- repeated labels make no difference to the second sweep
 
@@ -56,18 +54,18 @@ module _ {C : Type 0} (see : C → Ins) where
       (λ z. rw (y, z) (unreached-dedupe (label_of (see c)) (terminal (see c)) p (label_goes_on (see c)))))
 
   removed_is : (p : List C) → removed see p ≡ unreached see false p
-  removed_is p = unreached-dedupe none false p (λ _. refl)
+  removed_is p = unreached-dedupe None false p (λ _. refl)
 
 -- ---- the sites as the code reads them
 
-site_read : (s : List ℕ) (k : ℕ) (f : Cell → Site) → k < length s / 16 → {r : Site} → r ≡ f (get_or (cells s) k []) → f (cell_at s k) ≡ r
+site_read : (s : List ℕ) (k : ℕ) (f : Cell → Option ℕ) → k < length s / 16 → {r : Option ℕ} → r ≡ f (get_or (cells s) k []) → f (cell_at s k) ≡ r
 site_read s k f h e = ap f (sym (cell_at_lem s k h)) ∙ sym e
 
-pub code_site : (s : List ℕ) (k : ℕ) (w : Which) → k < length s / 16 → {r : Site} → r ≡ site_by Code w (get_or (cells s) k []) → site_of w (cell_at s k) ≡ r
+pub code_site : (s : List ℕ) (k : ℕ) (w : Which) → k < length s / 16 → {r : Option ℕ} → r ≡ site_by Code w (get_or (cells s) k []) → site_of w (cell_at s k) ≡ r
 unfolding site_by
 code_site s k w h e = site_read s k (site_of w) h e
 
-pub event_site_lem : (s : List ℕ) (k : ℕ) (w : Which) → k < length s / 16 → {r : Site} → r ≡ site_by Events w (get_or (cells s) k []) → event_site w (cell_at s k) ≡ r
+pub event_site_lem : (s : List ℕ) (k : ℕ) (w : Which) → k < length s / 16 → {r : Option ℕ} → r ≡ site_by Events w (get_or (cells s) k []) → event_site w (cell_at s k) ≡ r
 unfolding site_by
 event_site_lem s k w h e = site_read s k (event_site w) h e
 
@@ -82,10 +80,10 @@ gone_all w s = ap (sites_on (site_of w)) (removed_is view (cells s))
 
 module _ (w : Which) (s : List ℕ) (cut : Bool) (k : ℕ) where
   module _ (h : k < length s / 16) where
-    pub gone_site : (x : ℕ) → cut_off view cut (cell_at s k) ≡ true → site_of w (cell_at s k) ≡ At x → gone w s cut k ≡ x ∷ gone w s cut (k + 1)
+    pub gone_site : (x : ℕ) → cut_off view cut (cell_at s k) ≡ true → site_of w (cell_at s k) ≡ Some x → gone w s cut k ≡ x ∷ gone w s cut (k + 1)
     gone_site x t e = rw (cells_cons s k h, t, e)
 
-    pub gone_bare : cut_off view cut (cell_at s k) ≡ true → site_of w (cell_at s k) ≡ Absent → gone w s cut k ≡ gone w s cut (k + 1)
+    pub gone_bare : cut_off view cut (cell_at s k) ≡ true → site_of w (cell_at s k) ≡ None → gone w s cut k ≡ gone w s cut (k + 1)
     gone_bare t e = rw (cells_cons s k h, t, e)
 
     pub gone_kept : (b : Bool) → cut_off view cut (cell_at s k) ≡ false → terminal (view (cell_at s k)) ≡ b → gone w s cut k ≡ gone w s b (k + 1)
@@ -96,9 +94,9 @@ module _ (w : Which) (s : List ℕ) (cut : Bool) (k : ℕ) where
 
 -- ---- the events that they spare are those that stay
 
-pub among_sites : (w : Which) (cs : List Cell) (s : Site) → among (sites_on (site_of w) cs) s ≡ on_gone w cs s
-among_sites w cs Absent = refl
-among_sites w cs (At x) = sites_any (site_of w) x cs
+pub among_sites : (w : Which) (cs : List Cell) (s : Option ℕ) → among (sites_on (site_of w) cs) s ≡ on_gone w cs s
+among_sites w cs None = refl
+among_sites w cs (Some x) = sites_any (site_of w) x cs
 
 spared-stays : (cs es : List Cell) → only (spared (sites_on (site_of Activation) cs) (sites_on (site_of Write) cs)) es ≡ only (stays cs) es
 spared-stays cs es = ap (λ (f : Cell → Bool). only f es) (fun_ext λ e. ap₂ (λ (a b : Bool). not (a || b)) (among_sites Activation cs (event_site Activation e)) (among_sites Write cs (event_site Write e)))

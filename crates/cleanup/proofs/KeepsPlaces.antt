@@ -1,8 +1,7 @@
 -- After cleanup each label stands once, where each label name stood at one place; and then each name stands at one place.
+use Rattle.std.specs.Prelude.{Option, None, Some, option_map}
 use mathlib.Core.Path.{◌≡◌, refl, ◌∙◌, ap}
 use mathlib.Core.Bool.{false}
-use mathlib.Core.Option
-use mathlib.Core.Option.{Option, none, some}
 use mathlib.Core.List.{List, [], ◌∷◌, ◌++◌, map}
 use Prim.Native.Nat.{ℕ}
 use native.Mathlib.Omega.{arith}
@@ -22,21 +21,21 @@ use Rattle.cleanup.proofs.RedundantLoads.{load_label}
 use Rattle.cleanup.proofs.LabelPlaces.{once}
 use Rattle.cleanup.proofs.CleanupRecords.{view_clean}
 
-once-sweep : (f g : Ins → Option ℕ) → ((i : Ins) (l : ℕ) → f i ≡ some l → label_of i ≡ none) → (p : List Ins) → Once p → Once (sweep plain f g p)
+once-sweep : (f g : Ins → Option ℕ) → ((i : Ins) (l : ℕ) → f i ≡ Some l → label_of i ≡ None) → (p : List Ins) → Once p → Once (sweep plain f g p)
 once-sweep f g u [] o = tt
 once-sweep f g u (i ∷ p) o = by_test (alike (f i) (next plain g p))
     (λ y. rw y (once-sweep f g u p o.1))
-    (λ y. rw y (λ l e. seek-sweep f g u l p ∙ ap (Option.map (sweep plain f g)) (o.0 l e), once-sweep f g u p o.1))
+    (λ y. rw y (λ l e. seek-sweep f g u l p ∙ ap (option_map (sweep plain f g)) (o.0 l e), once-sweep f g u p o.1))
 
 pub once-cleanup : (p : List Ins) → OnePlace p → Once (cleanup plain p)
 once-cleanup p o =
-    let p₂ : List Ins = reach plain false (dedupe plain none p) in
+    let p₂ : List Ins = reach plain false (dedupe plain None p) in
     once-sweep removable_load removable_load load_label (sweep plain jump_of label_of p₂) (once-sweep jump_of label_of jump_label p₂ (once p o))
 
 -- a label that stands in a list is found
-found : (l : ℕ) (m z : List Ins) → (s : List Ins) × (seek l (m ++ (label l ∷ z)) ≡ some s)
+found : (l : ℕ) (m z : List Ins) → (s : List Ins) × (seek l (m ++ (label l ∷ z)) ≡ Some s)
 found l [] z = (label l ∷ z, rw (alike_self l))
-found l (i ∷ m) z = by_test (alike (some l) (label_of i))
+found l (i ∷ m) z = by_test (alike (Some l) (label_of i))
     (λ y. (i ∷ m ++ (label l ∷ z), rw y))
     (λ y. let (s, e) = found l m z in (s, rw y e))
 

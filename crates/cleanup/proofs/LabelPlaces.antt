@@ -1,7 +1,7 @@
 -- Where each label name stands at one place, each label stands once after the first two sweeps.
+use Rattle.std.specs.Prelude.{Option, None, Some, option_map}
 use mathlib.Core.Path.{◌≡◌, refl, sym, ◌∙◌, ap, ap₂}
 use mathlib.Core.Bool.{Bool, false, true≢false, ◌&&◌, not}
-use mathlib.Core.Option.{Option, none, some, map}
 use mathlib.Core.List.{List, [], ◌∷◌, ◌++◌}
 use Prim.Native.Nat.{ℕ}
 use Rattle.cells.specs.Ins.{Ins, label, label_of, alike}
@@ -16,10 +16,10 @@ use Rattle.cleanup.proofs.Unreachable.{seek-reach}
 use Rattle.cleanup.proofs.NoopJumps.{Once}
 
 -- what a jump finds stands in the list
-seek-split : (l : ℕ) (p s : List Ins) → seek l p ≡ some s → (a : List Ins) × (z : List Ins) × (p ≡ a ++ (label l ∷ z))
+seek-split : (l : ℕ) (p s : List Ins) → seek l p ≡ Some s → (a : List Ins) × (z : List Ins) × (p ≡ a ++ (label l ∷ z))
 seek-split l [] s e = ([], [], cc)
-seek-split l (i ∷ p) s e = by_test (alike (some l) (label_of i))
-    (λ y. let (m, u, v) = alike_true (some l) (label_of i) y in ([], p, ap (λ j. j ∷ p) (label_is i l (v ∙ sym u))))
+seek-split l (i ∷ p) s e = by_test (alike (Some l) (label_of i))
+    (λ y. let (m, u, v) = alike_true (Some l) (label_of i) y in ([], p, ap (λ j. j ∷ p) (label_is i l (v ∙ sym u))))
     (λ y. let (a, z, x) = seek-split l p s (rw y at e) in (i ∷ a, z, ap (◌∷◌ i) x))
 
 pub tail_one_place : (i : Ins) (p : List Ins) → OnePlace (i ∷ p) → OnePlace p
@@ -27,15 +27,15 @@ unfolding OnePlace
 tail_one_place i p o l a m z e = o l (i ∷ a) m z (ap (◌∷◌ i) e)
 
 -- behind a label l at its one place, the first sweep leaves no other
-one_gone : (l : ℕ) (p : List Ins) → ((m z : List Ins) → p ≡ m ++ (label l ∷ z) → AllAre (label l) m) → seek l (dedupe plain (some l) p) ≡ none
+one_gone : (l : ℕ) (p : List Ins) → ((m z : List Ins) → p ≡ m ++ (label l ∷ z) → AllAre (label l) m) → seek l (dedupe plain (Some l) p) ≡ None
 one_gone l [] o = refl
-one_gone l (i ∷ p) o = by_test (alike (some l) (label_of i))
+one_gone l (i ∷ p) o = by_test (alike (Some l) (label_of i))
     (λ y. rw y (one_gone l p (λ m z e. (o (i ∷ m) z (ap (◌∷◌ i) e)).1)))
     (λ y. rw (y, y, seek-dedupe l (label_of i) p y) (go y (seek l p) refl))
   where
-    go : alike (some l) (label_of i) ≡ false → (k : Option (List Ins)) → seek l p ≡ k → map (dedupe plain none) k ≡ none
-    go y none e = refl
-    go y (some s) e =
+    go : alike (Some l) (label_of i) ≡ false → (k : Option (List Ins)) → seek l p ≡ k → option_map (dedupe plain None) k ≡ None
+    go y None e = refl
+    go y (Some s) e =
         let (a, z, x) = seek-split l p s e in
         let w : i ≡ label l = (o (i ∷ a) z (ap (◌∷◌ i) x)).0 in
         absurd (true≢false (sym (alike_self l) ∙ (rw w at y)))
@@ -51,7 +51,7 @@ once-reach : (b : Bool) (p : List Ins) → Once p → Once (reach plain b p)
 once-reach b [] o = tt
 once-reach b (i ∷ p) o = by_test (b && not (is_there (label_of i)))
     (λ y. rw y (once-reach b p o.1))
-    (λ y. rw y (λ l e. seek-reach l (terminal i) p ∙ ap (map (reach plain false)) (o.0 l e), once-reach (terminal i) p o.1))
+    (λ y. rw y (λ l e. seek-reach l (terminal i) p ∙ ap (option_map (reach plain false)) (o.0 l e), once-reach (terminal i) p o.1))
 
-pub once : (p : List Ins) → OnePlace p → Once (reach plain false (dedupe plain none p))
-once p o = once-reach false (dedupe plain none p) (once-dedupe none p o)
+pub once : (p : List Ins) → OnePlace p → Once (reach plain false (dedupe plain None p))
+once p o = once-reach false (dedupe plain None p) (once-dedupe None p o)

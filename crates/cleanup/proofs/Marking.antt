@@ -1,7 +1,7 @@
 -- What is read of the cell at a position is what the cell is to the sweeps; so a sweep over what is read is the sweep over the cells.
+use Rattle.std.specs.Prelude.{Option, None}
 use mathlib.Core.Path.{◌≡◌, refl, ◌∙◌, ap, ap₂, subst}
-use mathlib.Core.Bool.{Bool, true, false, not, ◌&&◌}
-use mathlib.Core.Option.{Option, none}
+use mathlib.Core.Bool.{Bool, false, not, ◌&&◌}
 use mathlib.Core.List.{List, [], ◌∷◌}
 use Prim.Native.Nat.{ℕ, ◌+◌, ◌*◌, ◌<◌}
 use native.Mathlib.Omega.{arith}
@@ -15,15 +15,17 @@ use Rattle.cells.specs.View.{view_as, view}
 use Rattle.cells.specs.declared.table.Class.{Class}
 use Rattle.cells.specs.declared.table.Class.TheVariants.{NoCommand, LoadQ, LoadBool, LoadF64, LoadI32, LoadU32, LoadFx, Unary, Binary, Label as «LabelClass», Jmp as «JmpClass», JmpIf, Ret as «RetClass», Act, ActDst, ActOptDst}
 use Rattle.cleanup.specs.Marks.{terminal, is_there, jump_of, removable_load}
-use Rattle.cleanup.specs.Sweeps.{next, same_label, cut_off, same_next}
+use Rattle.cleanup.specs.Sweeps.{next, same_label, cut_off, same_next, remove_duplicate_consecutive_labels, remove_unreachable_until_label, remove_noop_jumps, remove_redundant_consecutive_loads}
 use Rattle.cleanup.specs.Reading.{class_mark, seen_at, is_asked, operand_of, is_terminal}
-use Rattle.cleanup.specs.ByKind.{sweep_by, ended_of, seen_next, goes_by, after_by, stays_by}
+use Rattle.cleanup.specs.ByState.{label_goes, after_label, unreachable_goes, after_end, jump_goes, load_goes, seen_next, goes_by, after_by, stays_by}
 use Rattle.cleanup.specs.Positions.{see_at}
 use Rattle.cleanup.specs.declared.marks.Mark.{Mark}
 use Rattle.cleanup.specs.declared.marks.Mark.TheVariants.{Other, Label, Jmp, Load}
 use Rattle.cleanup.specs.declared.marks.Seen.{Seen}
-use Rattle.cleanup.specs.declared.sweeps.SweepKind.{SweepKind}
-use Rattle.cleanup.specs.declared.sweeps.SweepKind.TheVariants.{Labels, Unreachable, Jumps, Loads}
+use Rattle.cleanup.specs.declared.sweeps.Labels.{Labels}
+use Rattle.cleanup.specs.declared.sweeps.Unreachable.{Unreachable}
+use Rattle.cleanup.specs.declared.sweeps.Jumps.{Jumps}
+use Rattle.cleanup.specs.declared.sweeps.Loads.{Loads}
 use Rattle.cleanup.proofs.Sweeping.{remaining_through}
 
 -- all that the sweeps ask of an instruction is read
@@ -77,20 +79,22 @@ module _ {C : Type 0} (see : C → Ins) (seen : C → Seen) (reads : (c : C) →
   read_next asked g e r [] = rw e
   read_next asked g e r (c ∷ p) = r c
 
-  there-ended : (t : Bool) → is_there (ended_of t) ≡ t
-  there-ended true = refl
-  there-ended false = refl
+  pub by_labels : (p : List C) → stays_by seen label_goes after_label (record { kept = None }) p ≡ remove_duplicate_consecutive_labels see p
+  by_labels p =
+      remaining_through (λ (k : Labels). k.kept) (goes_by seen label_goes after_label) (after_by seen label_goes after_label) (same_label see) (λ (c : C). label_of (see c))
+      (λ k c q. ap (alike k.kept) (reads c).label) (λ c. (reads c).label) (record { kept = None }) p
 
-  pub by_kind : (kind : SweepKind) (p : List C) → stays_by seen kind none p ≡ sweep_by see kind p
-  by_kind Labels p =
-      remaining_through (λ (k : Option ℕ). k) (goes_by seen Labels) (after_by seen Labels) (same_label see) (λ (c : C). label_of (see c))
-      (λ k c q. ap (alike k) (reads c).label) (λ c. (reads c).label) none p
-  by_kind Unreachable p =
-      remaining_through is_there (goes_by seen Unreachable) (after_by seen Unreachable) (λ (t : Bool) (c : C) (_ : List C). cut_off see t c) (λ (c : C). terminal (see c))
-      (λ k c q. ap (λ (l : Option ℕ). is_there k && not (is_there l)) (reads c).label) (λ c. there-ended (is_terminal (seen c).mark) ∙ (reads c).ends) none p
-  by_kind Jumps p =
-      remaining_through (λ (_ : Option ℕ). tt) (goes_by seen Jumps) (after_by seen Jumps) (same_next see jump_of label_of) (λ (_ : C). tt)
-      (λ k c q. ap₂ alike (reads c).jump (read_next Label label_of refl (λ d. (reads d).label) q)) (λ c. refl) none p
-  by_kind Loads p =
-      remaining_through (λ (_ : Option ℕ). tt) (goes_by seen Loads) (after_by seen Loads) (same_next see removable_load removable_load) (λ (_ : C). tt)
-      (λ k c q. ap₂ alike (reads c).load (read_next Load removable_load refl (λ d. (reads d).load) q)) (λ c. refl) none p
+  pub by_unreachable : (p : List C) → stays_by seen unreachable_goes after_end (record { ended = false }) p ≡ remove_unreachable_until_label see p
+  by_unreachable p =
+      remaining_through (λ (k : Unreachable). k.ended) (goes_by seen unreachable_goes after_end) (after_by seen unreachable_goes after_end) (λ (t : Bool) (c : C) (_ : List C). cut_off see t c) (λ (c : C). terminal (see c))
+      (λ k c q. ap (λ (l : Option ℕ). k.ended && not (is_there l)) (reads c).label) (λ c. (reads c).ends) (record { ended = false }) p
+
+  pub by_jumps : (k : Jumps) (p : List C) → stays_by seen jump_goes (λ _. record {}) k p ≡ remove_noop_jumps see p
+  by_jumps k p =
+      remaining_through (λ (_ : Jumps). tt) (goes_by seen jump_goes (λ _. record {})) (λ (_ : C). record {}) (same_next see jump_of label_of) (λ (_ : C). tt)
+      (λ j c q. ap₂ alike (reads c).jump (read_next Label label_of refl (λ d. (reads d).label) q)) (λ c. refl) k p
+
+  pub by_loads : (k : Loads) (p : List C) → stays_by seen load_goes (λ _. record {}) k p ≡ remove_redundant_consecutive_loads see p
+  by_loads k p =
+      remaining_through (λ (_ : Loads). tt) (goes_by seen load_goes (λ _. record {})) (λ (_ : C). record {}) (same_next see removable_load removable_load) (λ (_ : C). tt)
+      (λ j c q. ap₂ alike (reads c).load (read_next Load removable_load refl (λ d. (reads d).load) q)) (λ c. refl) k p

@@ -1,7 +1,7 @@
 -- Naturality: the sweeps over whatever stands for cells (a position, a cell, what a cell is) are the sweeps over the cells.
+use Rattle.std.specs.Prelude.{Option}
 use mathlib.Core.Path.{◌≡◌, refl, ap, ◌∙◌}
 use mathlib.Core.Bool.{Bool}
-use mathlib.Core.Option.{Option}
 use mathlib.Core.List.{List, [], ◌∷◌, map}
 use Prim.Native.Nat.{ℕ}
 use Rattle.cells.specs.Ins.{Ins, label_of, alike}

@@ -1,6 +1,6 @@
 -- The records are the same without a Jmp to the next cell, where each label stands once.
+use Rattle.std.specs.Prelude.{Option, None, Some}
 use mathlib.Core.Path.{◌≡◌, refl, sym, ◌∙◌, ap}
-use mathlib.Core.Option.{Option, none, some}
 use mathlib.Core.List.{List, [], ◌∷◌, ◌++◌, append_assoc}
 use Prim.Native.Nat.{ℕ}
 use native.Mathlib.Omega.{arith}
@@ -18,20 +18,20 @@ use Rattle.cleanup.proofs.SweepLaws.{seek-sweep, sweep-keeps}
 -- each label stands once
 abbrev pub Once : List Ins → Type 0
 Once [] = Unit {0}
-Once (i ∷ p) = ((l : ℕ) → label_of i ≡ some l → seek l p ≡ none) × Once p
+Once (i ∷ p) = ((l : ℕ) → label_of i ≡ Some l → seek l p ≡ None) × Once p
 
 -- then a jump to a label goes to where it is seen
-once-seek : (l : ℕ) (a : List Ins) (j : Ins) (p : List Ins) → Once (a ++ (j ∷ p)) → label_of j ≡ some l → seek l (a ++ (j ∷ p)) ≡ some (j ∷ p)
+once-seek : (l : ℕ) (a : List Ins) (j : Ins) (p : List Ins) → Once (a ++ (j ∷ p)) → label_of j ≡ Some l → seek l (a ++ (j ∷ p)) ≡ Some (j ∷ p)
 once-seek l [] j p o e = rw (e, alike_self l)
-once-seek l (i ∷ a) j p o e = by_test (alike (some l) (label_of i))
+once-seek l (i ∷ a) j p o e = by_test (alike (Some l) (label_of i))
     (λ y.
-    let (m, u, v) = alike_true (some l) (label_of i) y in
+    let (m, u, v) = alike_true (Some l) (label_of i) y in
     let z = once-seek l a j p o.1 e in
     let w = o.0 l (v ∙ sym u) in
     cc)
     (λ y. rw y (once-seek l a j p o.1 e))
 
-pub jump_is : (i : Ins) (l : ℕ) → jump_of i ≡ some l → i ≡ jmp l
+pub jump_is : (i : Ins) (l : ℕ) → jump_of i ≡ Some l → i ≡ jmp l
 jump_is (load d v) l e = cc
 jump_is (comp c o d a b) l e = cc
 jump_is (label k) l e = cc
@@ -40,10 +40,10 @@ jump_is (jmp_if c k) l e = cc
 jump_is (ret s) l e = cc
 jump_is (act c d b) l e = cc
 
-pub jump_label : (i : Ins) (l : ℕ) → jump_of i ≡ some l → label_of i ≡ none
+pub jump_label : (i : Ins) (l : ℕ) → jump_of i ≡ Some l → label_of i ≡ None
 jump_label i l e = rw (jump_is i l e)
 
-next_is : (g : Ins → Option ℕ) (p : List Ins) (l : ℕ) → next plain g p ≡ some l → (j : Ins) × (p' : List Ins) × (p ≡ j ∷ p') × (g j ≡ some l)
+next_is : (g : Ins → Option ℕ) (p : List Ins) (l : ℕ) → next plain g p ≡ Some l → (j : Ins) × (p' : List Ins) × (p ≡ j ∷ p') × (g j ≡ Some l)
 next_is g [] l e = (label 0, [], cc, cc)
 next_is g (j ∷ p) l e = (j, p, refl, e)
 
@@ -55,14 +55,14 @@ module _ (P : List Ins) (once : Once P) where
   past i p x = (x.0 ++ (i ∷ []), x.1 ∙ sym (append_assoc x.0 (i ∷ []) p))
 
   -- a jump to the label that stands next
-  seek-next : (l : ℕ) (i : Ins) (p : List Ins) → next plain label_of p ≡ some l → ((a : List Ins) × (P ≡ a ++ (i ∷ p))) → seek l P ≡ some p
+  seek-next : (l : ℕ) (i : Ins) (p : List Ins) → next plain label_of p ≡ Some l → ((a : List Ins) × (P ≡ a ++ (i ∷ p))) → seek l P ≡ Some p
   seek-next l i p e x =
       let (j, p', y, z) = next_is label_of p l e in
       let (b, w) = past i p x in
       let w' : P ≡ b ++ (j ∷ p') = w ∙ ap (λ k. b ++ k) y in
-      ap (seek l) w' ∙ once-seek l b j p' (rw w' at once) z ∙ ap some (sym y)
+      ap (seek l) w' ∙ once-seek l b j p' (rw w' at once) z ∙ ap Some (sym y)
 
-  exec_jump : (i : Ins) (l : ℕ) (r : Regs) → jump_of i ≡ some l → exec i r ≡ to l
+  exec_jump : (i : Ins) (l : ℕ) (r : Regs) → jump_of i ≡ Some l → exec i r ≡ to l
   unfolding exec
   exec_jump i l r e = rw (jump_is i l e)
 

@@ -7,14 +7,11 @@ use native.Mathlib.Omega.{arith}
 use Rattle.cells.specs.Cells.{Cell}
 use Rattle.cells.specs.Lists.{tally}
 use Rattle.cells.specs.View.{view}
-use Rattle.cells.specs.declared.refusal.Checked.TheVariants.{Good}
 use Rattle.cells.proofs.Lists.{all_each, only_neither, length-not, any_yes, yes_any, tally-only}
 use Rattle.sites.specs.Sites.{site_of, event_site, is_site, stands, times}
 use Rattle.sites.specs.Validators.{site_check}
 use Rattle.sites.proofs.Fit.{Paired, Claimed}
 use Rattle.sites.proofs.RustTests.{met}
-use Rattle.sites.specs.declared.Site.{Site}
-use Rattle.sites.specs.declared.Site.TheVariants.{Absent, At}
 use Rattle.sites.specs.declared.Which.{Which}
 use Rattle.sites.specs.declared.Which.TheVariants.{Activation, Write}
 use Rattle.sites.proofs.Judged.{site_is}
@@ -26,17 +23,18 @@ use Rattle.cleanup.specs.Cleanup.{on_gone, goes, clean_events}
 use Rattle.cleanup.specs.Errors.{retain, sites_removed, events_removed}
 use Rattle.cleanup.proofs.SitesSplit.{split}
 use Rattle.cleanup.proofs.CleanupPasses.{Single, singles}
+use Rattle.std.specs.Prelude.{Option, Some, None, Ok}
 
 -- cleanup's two steps leave the events that stay
 pub two_steps : (cs es : List Cell) → retain Write (removed view cs) (retain Activation (removed view cs) es) ≡ clean_events cs es
 unfolding clean_events
 two_steps cs es = only_neither (goes Activation (removed view cs)) (goes Write (removed view cs)) es
 
-gone_met : (w : Which) (gone : List Cell) (s : Site) → on_gone w gone s ≡ met (site_of w) gone s
-gone_met w gone Absent = refl
-gone_met w gone (At x) = refl
+gone_met : (w : Which) (gone : List Cell) (s : Option ℕ) → on_gone w gone s ≡ met (site_of w) gone s
+gone_met w gone None = refl
+gone_met w gone (Some x) = refl
 
-module _ (position : ℕ) (cs es : List Cell) (good : site_check position cs es ≡ Good) where
+module _ (position : ℕ) (cs es : List Cell) (good : site_check position cs es ≡ Ok tt) where
   a : Paired cs es
   a = ((site_check_lem position cs es).0 good).0
 

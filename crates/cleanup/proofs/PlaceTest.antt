@@ -1,8 +1,8 @@
 -- The test of the premise passes exactly the functions in which each label name stands at one place.
+use Rattle.std.specs.Prelude.{Option, None, Some}
 use mathlib.Core.Path.{◌≡◌, refl, sym, ◌∙◌, ap, ap₂}
 use mathlib.Core.Logic.{◌↔◌}
 use mathlib.Core.Bool.{true, false, true≢false, or-true}
-use mathlib.Core.Option.{Option, none, some}
 use mathlib.Core.List.{List, [], ◌∷◌, ◌++◌}
 use Prim.Native.Nat.{ℕ}
 use Rattle.cells.specs.Ins.{Ins, label, label_of}
@@ -14,7 +14,7 @@ use Rattle.cleanup.proofs.LabelPlaces.{tail_one_place}
 
 module _ (l : ℕ) where
   named : (i : Ins) → is_label l i ≡ true → i ≡ label l
-  named i y = let (m, u, v) = alike_true (some l) (label_of i) y in label_is i l (v ∙ sym u)
+  named i y = let (m, u, v) = alike_true (Some l) (label_of i) y in label_is i l (v ∙ sym u)
 
   any_label : (m z : List Ins) → any (is_label l) (m ++ (label l ∷ z)) ≡ true
   any_label m z = any_append (is_label l) m (label l ∷ z) ∙ rw (alike_self l) (or-true (any (is_label l) m))
@@ -53,8 +53,8 @@ passes [] o = refl
 passes (i ∷ p) o = rw (ends (label_of i) refl, passes p (tail_one_place i p o))
   where
     ends : (k : Option ℕ) → label_of i ≡ k → ends_here k p ≡ true
-    ends none e = refl
-    ends (some l) e = rw (none_past l p (λ m z x. o l [] m z (ap₂ ◌∷◌ (label_is i l e) x)))
+    ends None e = refl
+    ends (Some l) e = rw (none_past l p (λ m z x. o l [] m z (ap₂ ◌∷◌ (label_is i l e) x)))
 
 pub place_test : (P : List Ins) → (one_place P ≡ true) ↔ OnePlace P
 unfolding OnePlace

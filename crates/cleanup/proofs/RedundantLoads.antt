@@ -1,6 +1,6 @@
 -- The records are the same without a load whose next cell loads the same register: before that cell, the registers may differ in this one.
+use Rattle.std.specs.Prelude.{Option, None, Some}
 use mathlib.Core.Path.{◌≡◌, refl, sym, ◌∙◌, ap, fun_ext}
-use mathlib.Core.Option.{Option, none, some}
 use mathlib.Core.List.{List, ◌∷◌}
 use Prim.Native.Nat.{ℕ}
 use native.Mathlib.Omega.{arith}
@@ -21,7 +21,7 @@ set-set : (d : ℕ) (v w : Value) (r : Regs) → set d w (set d v r) ≡ set d w
 unfolding set
 set-set d v w r = fun_ext λ x. by_test (eqb x d) (λ e. rw e) (λ e. rw e)
 
-removable_is : (d e : ℕ) (v : Const) → removable e v ≡ some d → e ≡ d
+removable_is : (d e : ℕ) (v : Const) → removable e v ≡ Some d → e ≡ d
 removable_is d e (quad n) x = cc
 removable_is d e (bool b) x = cc
 removable_is d e (f64 n) x = cc
@@ -29,7 +29,7 @@ removable_is d e (i32 n) x = cc
 removable_is d e (u32 n) x = cc
 removable_is d e (fx n) x = cc
 
-pub load_is : (i : Ins) (d : ℕ) → removable_load i ≡ some d → (v : Const) × (i ≡ load d v)
+pub load_is : (i : Ins) (d : ℕ) → removable_load i ≡ Some d → (v : Const) × (i ≡ load d v)
 load_is (load e v) d x = (v, ap (λ k. load k v) (removable_is d e v x))
 load_is (comp c o e a b) d x = (u32 0, cc)
 load_is (label l) d x = (u32 0, cc)
@@ -38,17 +38,17 @@ load_is (jmp_if c l) d x = (u32 0, cc)
 load_is (ret s) d x = (u32 0, cc)
 load_is (act c e b) d x = (u32 0, cc)
 
-pub load_label : (i : Ins) (d : ℕ) → removable_load i ≡ some d → label_of i ≡ none
+pub load_label : (i : Ins) (d : ℕ) → removable_load i ≡ Some d → label_of i ≡ None
 load_label i d e = rw (load_is i d e).1
 
 -- the registers agree, but for the one that the next cell loads
 abbrev Agree : Option ℕ → Regs → Regs → Type 0
-Agree none r s = r ≡ s
-Agree (some d) r s = (w : Value) → set d w r ≡ set d w s
+Agree None r s = r ≡ s
+Agree (Some d) r s = (w : Value) → set d w r ≡ set d w s
 
 agree_refl : (k : Option ℕ) (r : Regs) → Agree k r r
-agree_refl none r = refl
-agree_refl (some d) r = λ w. refl
+agree_refl None r = refl
+agree_refl (Some d) r = λ w. refl
 
 abbrev ρ : Rel
 ρ p r q s = (q ≡ sweep plain removable_load removable_load p) × Agree (next plain removable_load p) r s
@@ -63,11 +63,11 @@ module _ (P : List Ins) where
     advance_other : q ≡ i ∷ sweep plain removable_load removable_load p → r ≡ s → Advance P ρ i p r q s
     advance_other x y = same (sweep plain removable_load removable_load p) x y (λ r' _. (refl, agree_refl (next plain removable_load p) r'))
 
-    advance_load : (d : ℕ) (v : Const) → i ≡ load d v → removable_load i ≡ some d → q ≡ sweep plain removable_load removable_load (i ∷ p) → ((w : Value) → set d w r ≡ set d w s) → Advance P ρ i p r q s
+    advance_load : (d : ℕ) (v : Const) → i ≡ load d v → removable_load i ≡ Some d → q ≡ sweep plain removable_load removable_load (i ∷ p) → ((w : Value) → set d w r ≡ set d w s) → Advance P ρ i p r q s
     advance_load d v e k x a = by_test (Ins.alike (removable_load i) (next plain removable_load p))
         (λ y.
         let (m, u, z) = alike_true (removable_load i) (next plain removable_load p) y in
-        let n : next plain removable_load p ≡ some d = z ∙ sym u ∙ k in
+        let n : next plain removable_load p ≡ Some d = z ∙ sym u ∙ k in
         stays p (set d (con v) r) (λ O h. rw (exec_load i d v r e)) (x ∙ rw y, rw n (λ w. rw (set-set d (con v) w r) (a w))) (omega arith))
         (λ y. alike i (sweep plain removable_load removable_load p) (set d (con v) r) (x ∙ rw y) (exec_load i d v r e) (exec_load i d v s e ∙ ap on (sym (a (con v)))) (refl, agree_refl (next plain removable_load p) (set d (con v) r)))
 
@@ -75,8 +75,8 @@ module _ (P : List Ins) where
     advance x = go (removable_load i) refl x.1
       where
         go : (k : Option ℕ) → removable_load i ≡ k → Agree k r s → Advance P ρ i p r q s
-        go none e a = advance_other (x.0 ∙ rw e) a
-        go (some d) e a = let (v, u) = load_is i d e in advance_load d v u e x.0 a
+        go None e a = advance_other (x.0 ∙ rw e) a
+        go (Some d) e a = let (v, u) = load_is i d e in advance_load d v u e x.0 a
 
   simulation : Simulation P (sweep plain removable_load removable_load P) ρ
   simulation = record {

@@ -1,7 +1,7 @@
 -- Cleanup splits the StoreVars and MakeRecords into those that stay and those that were unreachable.
+use Rattle.std.specs.Prelude.{Option, None}
 use mathlib.Core.Path.{◌≡◌, refl, ap}
 use mathlib.Core.Bool.{Bool, true, false}
-use mathlib.Core.Option.{Option, none}
 use mathlib.Core.List.{List, [], ◌∷◌}
 use Prim.Native.Nat.{ℕ, ◌+◌}
 use native.Mathlib.Omega.{arith}
@@ -24,7 +24,7 @@ only-dedupe k (c ∷ p) = by_test (alike k (label_of (view c)))
     (λ y. let (l, a, b) = alike_true k (label_of (view c)) y in rw (y, not_capable label_of (λ c d b. refl) c l b) (only-dedupe k p))
     (λ y. rw y (by_test (write_capable c) (λ z. rw z (ap (◌∷◌ c) (only-dedupe (label_of (view c)) p))) (λ z. rw z (only-dedupe (label_of (view c)) p))))
 
-pub only-sweep : (f g : Ins → Option ℕ) → ((c : Cell) (d : Option ℕ) (b : Bool) → f (act c d b) ≡ none) → (p : List Cell) → only write_capable (sweep view f g p) ≡ only write_capable p
+pub only-sweep : (f g : Ins → Option ℕ) → ((c : Cell) (d : Option ℕ) (b : Bool) → f (act c d b) ≡ None) → (p : List Cell) → only write_capable (sweep view f g p) ≡ only write_capable p
 only-sweep f g u [] = refl
 only-sweep f g u (c ∷ p) = by_test (alike (f (view c)) (next view g p))
     (λ y. let (l, a, b) = alike_true (f (view c)) (next view g p) y in rw (y, not_capable f u c l a) (only-sweep f g u p))
@@ -44,7 +44,7 @@ split f u cs =
     let p₁ : List Cell = remove_duplicate_consecutive_labels view cs in
     let p₂ : List Cell = remove_unreachable_until_label view p₁ in
     let p₃ : List Cell = remove_noop_jumps view p₂ in
-    let a = tally-same f u p₁ cs (only-dedupe none cs) in
+    let a = tally-same f u p₁ cs (only-dedupe None cs) in
     let b = tally-reach f false p₁ in
     let c = tally-same f u p₃ p₂ (only-sweep jump_of label_of (λ c d b. refl) p₂) in
     let d = tally-same f u (cleanup view cs) p₃ (only-sweep removable_load removable_load (λ c d b. refl) p₃) in

@@ -1,7 +1,7 @@
 -- The sweeps that remove a cell by itself and by the next: jumps move with them where they remove no label, and of a list with a cell they
 -- leave one.
+use Rattle.std.specs.Prelude.{Option, None, Some, option_map}
 use mathlib.Core.Path.{◌≡◌, refl, ap}
-use mathlib.Core.Option.{Option, none, some, map}
 use mathlib.Core.List.{List, [], ◌∷◌}
 use Prim.Native.Nat.{ℕ, ◌≤◌}
 use native.Mathlib.Omega.{arith}
@@ -13,11 +13,11 @@ use Rattle.machine.proofs.Jumps.{plain}
 use Rattle.cleanup.specs.Sweeps.{next, sweep}
 
 module _ (f g : Ins → Option ℕ) where
-  pub seek-sweep : ((i : Ins) (l : ℕ) → f i ≡ some l → label_of i ≡ none) → (l : ℕ) (p : List Ins) → seek l (sweep plain f g p) ≡ map (sweep plain f g) (seek l p)
+  pub seek-sweep : ((i : Ins) (l : ℕ) → f i ≡ Some l → label_of i ≡ None) → (l : ℕ) (p : List Ins) → seek l (sweep plain f g p) ≡ option_map (sweep plain f g) (seek l p)
   seek-sweep u l [] = refl
   seek-sweep u l (i ∷ p) = by_test (alike (f i) (next plain g p))
       (λ y. let (m, v, w) = alike_true (f i) (next plain g p) y in rw (y, u i m v) (seek-sweep u l p))
-      (λ y. by_test (alike (some l) (label_of i))
+      (λ y. by_test (alike (Some l) (label_of i))
       (λ z. rw (y, z, y))
       (λ z. rw (y, z) (seek-sweep u l p)))
 

@@ -1,7 +1,7 @@
 -- Laws of any sweep: it leaves cells out, what stays and what goes are all cells, and it may go over whatever stands for the cells.
+use Rattle.std.specs.Prelude.{Option, None}
 use mathlib.Core.Path.{◌≡◌, refl, ap, ◌∙◌}
 use mathlib.Core.Bool.{Bool, false}
-use mathlib.Core.Option.{Option, none}
 use mathlib.Core.List.{List, [], ◌∷◌, map}
 use Prim.Native.Nat.{ℕ, ◌+◌}
 use native.Mathlib.Omega.{arith}
@@ -75,4 +75,4 @@ module _ {C : Type 0} (see : C → Ins) where
       let p₁ = remove_duplicate_consecutive_labels see p in
       let p₂ = remove_unreachable_until_label see p₁ in
       let p₃ = remove_noop_jumps see p₂ in
-      sub_sub (sub_sweep removable_load removable_load p₃) (sub_sub (sub_sweep jump_of label_of p₂) (sub_sub (sub_reach false p₁) (sub_dedupe none p)))
+      sub_sub (sub_sweep removable_load removable_load p₃) (sub_sub (sub_sweep jump_of label_of p₂) (sub_sub (sub_reach false p₁) (sub_dedupe None p)))

@@ -1,7 +1,7 @@
 -- The records are the same without what stands between Ret or Jmp and the next label.
+use Rattle.std.specs.Prelude.{Option, None, Some, option_map}
 use mathlib.Core.Path.{◌≡◌, refl, sym}
 use mathlib.Core.Bool.{Bool, true, false, true≢false, ◌&&◌, not}
-use mathlib.Core.Option.{Option, none, some, map}
 use mathlib.Core.List.{List, [], ◌∷◌, nil≢cons}
 use Prim.Native.Nat.{ℕ}
 use Rattle.cells.specs.Ins.{Ins, load, comp, label, jmp, jmp_if, ret, act, label_of, alike}
@@ -18,15 +18,15 @@ abbrev ρ : Rel
 ρ p r q s = (q ≡ reach plain false p) × (r ≡ s)
 
 -- what goes is no label
-cut_off_lem : (b : Bool) (k : Option ℕ) → (b && not (is_there k)) ≡ true → k ≡ none
-cut_off_lem b none e = refl
-cut_off_lem b (some l) e = absurd (true≢false (sym (and_true b false e).1))
+cut_off_lem : (b : Bool) (k : Option ℕ) → (b && not (is_there k)) ≡ true → k ≡ None
+cut_off_lem b None e = refl
+cut_off_lem b (Some l) e = absurd (true≢false (sym (and_true b false e).1))
 
-pub seek-reach : (l : ℕ) (b : Bool) (p : List Ins) → seek l (reach plain b p) ≡ map (reach plain false) (seek l p)
+pub seek-reach : (l : ℕ) (b : Bool) (p : List Ins) → seek l (reach plain b p) ≡ option_map (reach plain false) (seek l p)
 seek-reach l b [] = refl
 seek-reach l b (i ∷ p) = by_test (b && not (is_there (label_of i)))
     (λ y. rw (y, cut_off_lem b (label_of i) y) (seek-reach l b p))
-    (λ y. by_test (alike (some l) (label_of i))
+    (λ y. by_test (alike (Some l) (label_of i))
     (λ z. rw (y, z))
     (λ z. rw (y, z) (seek-reach l (terminal i) p)))
 

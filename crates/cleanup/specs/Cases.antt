@@ -1,7 +1,6 @@
 -- Worked: cleanup at worked functions: document 01's starred rows on labels and loads ('Cells on either edge'), and some for each sweep. One table, and
 -- one theorem of all its rows.
-use Rattle.std.specs.Prelude.{◌≡◌, refl, Bool, true, false, List, [], ◌∷◌, map, ℕ}
-use Rattle.std.proofs.Math.Option.{none}
+use Rattle.std.specs.Prelude.{◌≡◌, refl, Bool, true, false, List, [], ◌∷◌, map, ℕ, None}
 use Rattle.cells.specs.Cells.{Cell}
 use Rattle.cells.specs.Ins.{Ins, label, jmp, ret}
 use Rattle.cells.specs.Table.{rows, class_of}
@@ -76,12 +75,12 @@ placed p b = record { cells = p; once = b }
 abbrev pub place_cases : List PlaceCase
 place_cases =
     placed [] true
-    ∷ placed (jmp 1 ∷ ret none ∷ []) true
+    ∷ placed (jmp 1 ∷ ret None ∷ []) true
     ∷ placed (label 1 ∷ jmp 1 ∷ label 2 ∷ []) true
     -- twice in a row, with a cell between, and apart
-    ∷ placed (jmp 1 ∷ label 1 ∷ label 1 ∷ ret none ∷ []) true
+    ∷ placed (jmp 1 ∷ label 1 ∷ label 1 ∷ ret None ∷ []) true
     ∷ placed (label 1 ∷ jmp 1 ∷ label 1 ∷ []) false
-    ∷ placed (label 1 ∷ label 2 ∷ jmp 2 ∷ ret none ∷ label 1 ∷ []) false
+    ∷ placed (label 1 ∷ label 2 ∷ jmp 2 ∷ ret None ∷ label 1 ∷ []) false
     -- two names, one after the other and interleaved
     ∷ placed (label 1 ∷ label 1 ∷ label 2 ∷ label 2 ∷ []) true
     ∷ placed (label 1 ∷ label 2 ∷ label 1 ∷ []) false

@@ -1,20 +1,18 @@
 -- Promise: cleanup of a function: its instruction cells, its events and the count (document 01, module 4).
-use Rattle.std.specs.Prelude.{ℕ, ◌+◌, ◌-◌, List, Bool, false, ◌||◌, not, length}
+use Rattle.std.specs.Prelude.{ℕ, ◌+◌, ◌-◌, List, Bool, false, ◌||◌, not, length, Option, Some, None}
 use Rattle.cells.specs.Cells.{Cell}
 use Rattle.cells.specs.Functions.{Function, new_head}
 use Rattle.cells.specs.Lists.{only}
 use Rattle.cells.specs.View.{view}
 use Rattle.sites.specs.Sites.{site_of, event_site, stands}
-use Rattle.sites.specs.declared.Site.{Site}
-use Rattle.sites.specs.declared.Site.TheVariants.{Absent, At}
 use Rattle.sites.specs.declared.Which.{Which}
 use Rattle.sites.specs.declared.Which.TheVariants.{Activation, Write}
 use Rattle.cleanup.specs.Sweeps.{remove_duplicate_consecutive_labels, remove_unreachable_until_label, remove_noop_jumps, remove_redundant_consecutive_loads, cleanup, removed}
 
 -- a site is there, and stands on one of the cells gone
-abbrev pub on_gone : Which → List Cell → Site → Bool
-on_gone w gone Absent = false
-on_gone w gone (At x) = stands (site_of w) x gone
+abbrev pub on_gone : Which → List Cell → Option ℕ → Bool
+on_gone w gone None = false
+on_gone w gone (Some x) = stands (site_of w) x gone
 
 -- an event goes with its activation site, and with its write site
 abbrev pub goes : Which → List Cell → Cell → Bool

@@ -5,7 +5,7 @@ pub mod Premise
 pub mod Errors
 pub mod Cases
 pub mod Reading
-pub mod ByKind
+pub mod ByState
 pub mod Positions
 pub mod Receipts
 pub mod Output

@@ -1,5 +1,5 @@
 -- Inner: the sweeps over the positions of a function's instruction cells, as the code has them.
-use Rattle.std.specs.Prelude.{◌≡◌, List, [], ◌∷◌, ℕ, zero, suc, ◌+◌, ◌/◌, ◌≤◌, ◌<◌, length, take}
+use Rattle.std.specs.Prelude.{◌≡◌, List, [], ◌∷◌, ℕ, zero, suc, ◌+◌, ◌/◌, ◌<◌, length}
 use Rattle.cells.specs.Cells.{cell_at, over}
 use Rattle.cells.specs.Ins.{Ins}
 use Rattle.cells.specs.Lists.{All}
@@ -17,11 +17,6 @@ up_from k (suc n) = k ∷ up_from (k + 1) n
 
 abbrev pub AllBelow : ℕ → List ℕ → Type 0
 AllBelow m ks = All (λ (k : ℕ). k < m) ks
-
--- the first n of a list are positions of the instruction part
-pub record PositionsListed (code list : List ℕ) (n : ℕ) : Type 0 where
-  pub room : n ≤ length list
-  pub below : AllBelow (length code / 16) (take n list)
 
 -- all positions, and those that each sweep leaves
 abbrev pub every : List ℕ → List ℕ

@@ -1,7 +1,6 @@
 -- Promise: the premise of demand 3 (document 01, 'How a function runs'): in the function as sent, each label name stands at one place, that is, its
 -- Label cells follow one another with no other cell between.
-use Rattle.std.specs.Prelude.{◌≡◌, Bool, true, cond, ◌&&◌, not, List, [], ◌∷◌, ◌++◌, ℕ}
-use Rattle.std.proofs.Math.Option.{Option, none, some}
+use Rattle.std.specs.Prelude.{◌≡◌, Bool, true, cond, ◌&&◌, not, List, [], ◌∷◌, ◌++◌, ℕ, Option, None, Some}
 use Rattle.cells.specs.Ins.{Ins, label, label_of, alike}
 use Rattle.cells.specs.Lists.{any}
 
@@ -17,7 +16,7 @@ OnePlace P = (l : ℕ) (a m z : List Ins) → P ≡ a ++ (label l ∷ (m ++ (lab
 -- ---- the same as a test that computes
 
 abbrev pub is_label : ℕ → Ins → Bool
-is_label l i = alike (some l) (label_of i)
+is_label l i = alike (Some l) (label_of i)
 
 -- p without the cells Label l that it starts with
 abbrev pub past_labels : ℕ → List Ins → List Ins
@@ -26,8 +25,8 @@ past_labels l (i ∷ p) = cond (is_label l i) (past_labels l p) (i ∷ p)
 
 -- behind a cell of this name and those of its name that follow it there is none
 abbrev pub ends_here : Option ℕ → List Ins → Bool
-ends_here none p = true
-ends_here (some l) p = not (any (is_label l) (past_labels l p))
+ends_here None p = true
+ends_here (Some l) p = not (any (is_label l) (past_labels l p))
 
 abbrev pub one_place : List Ins → Bool
 one_place [] = true

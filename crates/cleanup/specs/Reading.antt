@@ -1,20 +1,12 @@
 -- Inner: what the code reads of an instruction: what its command is to the sweeps, and its first operand.
-use Rattle.std.specs.Prelude.{Bool, true, false, cond, List, ℕ, ◌+◌, ◌*◌, eqb}
-use Rattle.std.proofs.Math.Option.{Option, none, some}
+use Rattle.std.specs.Prelude.{Bool, true, false, cond, List, ℕ, ◌+◌, ◌*◌, eqb, Option, Some, None}
 use Rattle.cells.specs.Bytes.{byte, half}
 use Rattle.cells.specs.Table.{class_of}
 use Rattle.cells.specs.declared.table.Class.{Class}
 use Rattle.cells.specs.declared.table.Class.TheVariants.{NoCommand, LoadQ, LoadBool, LoadF64, LoadI32, LoadU32, LoadFx, Unary, Binary, Label as «LabelClass», Jmp as «JmpClass», JmpIf, Ret as «RetClass», Act, ActDst, ActOptDst}
-use Rattle.cleanup.specs.declared.marks.Key.{Key}
-use Rattle.cleanup.specs.declared.marks.Key.TheVariants.{Nothing, Of}
 use Rattle.cleanup.specs.declared.marks.Mark.{Mark}
 use Rattle.cleanup.specs.declared.marks.Mark.TheVariants.{Other, Label, Jmp, Ret, Load}
 use Rattle.cleanup.specs.declared.marks.Seen.{Seen}
-
--- a number that may be there
-abbrev pub key_of : Key → Option ℕ
-key_of Nothing = none
-key_of (Of n) = some n
 
 -- the mark of each class
 abbrev pub class_mark : Class → Mark
@@ -52,7 +44,7 @@ is_asked asked found = eqb (mark_number asked) (mark_number found)
 
 -- the operand of a cell with the mark asked for
 abbrev pub operand_of : Mark → Seen → Option ℕ
-operand_of asked s = cond (is_asked asked s.mark) (some s.operand) none
+operand_of asked s = cond (is_asked asked s.mark) (Some s.operand) None
 
 -- Ret or Jmp
 abbrev pub is_terminal : Mark → Bool

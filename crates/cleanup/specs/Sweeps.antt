@@ -1,7 +1,6 @@
 -- Promise: cleanup's four sweeps, each from left to right (document 01, module 4), over cells of any form: `see` says what a cell is. The code has them
 -- at positions, an image at 16 bytes, and the runs at `Ins` itself.
-use Rattle.std.specs.Prelude.{Bool, false, cond, ◌&&◌, not, List, [], ◌∷◌, ℕ}
-use Rattle.std.proofs.Math.Option.{Option, none}
+use Rattle.std.specs.Prelude.{Bool, false, cond, ◌&&◌, not, List, [], ◌∷◌, ℕ, Option, None}
 use Rattle.cells.specs.Ins.{Ins, label_of, alike}
 use Rattle.cleanup.specs.Marks.{terminal, is_there, jump_of, removable_load}
 
@@ -27,10 +26,10 @@ module _ {C : Type 0} (see : C → Ins) where
   dedupe k p = remaining same_label (λ (c : C). label_of (see c)) k p
 
   abbrev pub remove_duplicate_consecutive_labels : List C → List C
-  remove_duplicate_consecutive_labels p = dedupe none p
+  remove_duplicate_consecutive_labels p = dedupe None p
 
   abbrev pub duplicate_labels : List C → List C
-  duplicate_labels p = removing same_label (λ (c : C). label_of (see c)) none p
+  duplicate_labels p = removing same_label (λ (c : C). label_of (see c)) None p
 
   -- ---- 2. "after Ret or Jmp everything up to the next label goes": the state is whether the cell just kept is a Ret or Jmp
 
@@ -52,7 +51,7 @@ module _ {C : Type 0} (see : C → Ins) where
   -- ---- 3 and 4 have no state: a cell goes if f finds a number in it, and g the same number in the next cell
 
   abbrev pub next : (Ins → Option ℕ) → List C → Option ℕ
-  next g [] = none
+  next g [] = None
   next g (c ∷ p) = g (see c)
 
   abbrev pub same_next : (Ins → Option ℕ) → (Ins → Option ℕ) → Unit {0} → C → List C → Bool

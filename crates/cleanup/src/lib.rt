@@ -7,10 +7,10 @@ pub mod sweeps;
 
 ghost use Rattle.std.specs.Prelude.{◌≡◌, ◌/◌, ◌≤◌, length, drop};
 ghost use Rattle.cells.specs.Cells.{cells};
+ghost use Rattle.cells.specs.Check.{max_instructions};
 ghost use Rattle.cells.specs.Functions.{function_of};
 ghost use Rattle.cleanup.specs.Cleanup.{clean_function, clean_count};
 ghost use Rattle.cleanup.specs.Output.{Parts, PartsWritten, Holds};
-ghost use Rattle.cleanup.specs.Positions.{swept_list};
 
 use cells::check::MAX_INSTRUCTIONS;
 use cells::read::CELL;
@@ -30,23 +30,21 @@ pub fn cleanup_function(code: &[u8], events: &[u8], out: &mut [u8]) -> FunctionR
     ensures { PartsWritten (cells code.now) (cells events.now) out.old out.new result }
 {
     if code.len() / CELL <= FEW {
-        let mut positions = [0u16; FEW];
-        return cleanup_by(code, events, &mut positions, out);
+        cleanup_within::<FEW>(code, events, out)
+    } else {
+        cleanup_within::<MAX_INSTRUCTIONS>(code, events, out)
     }
-    let mut positions = [0u16; MAX_INSTRUCTIONS];
-    cleanup_by(code, events, &mut positions, out)
 }
 
-// With a list for the positions of the cells that stay.
-fn cleanup_by(code: &[u8], events: &[u8], positions: &mut [u16], out: &mut [u8]) -> FunctionReport
-    requires { Parts code.now events.now out.old × (length code.now / 16 ≤ length positions.old) }
-    ensures parts_written { PartsWritten (cells code.now) (cells events.now) out.old out.new result }
-    ensures positions_after { positions.new ≡ swept_list code.now positions.old }
+// With room for the positions of N cells that stay.
+fn cleanup_within<const N: usize>(code: &[u8], events: &[u8], out: &mut [u8]) -> FunctionReport
+    requires { Parts code.now events.now out.old × (length code.now / 16 ≤ N) × (N ≤ max_instructions) }
+    ensures { PartsWritten (cells code.now) (cells events.now) out.old out.new result }
 {
-    let n = sweeps::survivors(code, positions);
-    sweeps::copy_out(code, positions, n, out);
-    let a = CELL * n;
-    let m = events::retain_events(code, events, &mut out[a..]);
+    let mut positions = [0u16; N];
+    let n = sweeps::survivors(code, &mut positions);
+    sweeps::copy_out(code, &positions[..n], out);
+    let m = events::retain_events(code, events, &mut out[CELL * n..]);
     FunctionReport {
         instructions: n,
         events: m,
@@ -60,10 +58,8 @@ pub fn cleanup_to(head: &[u8], code: &[u8], events: &[u8], out: &mut [u8]) -> Fu
     ensures { Holds (clean_function (function_of head.now code.now events.now)) (clean_count (cells code.now)) out.old out.new result }
 {
     let r = cleanup_function(code, events, &mut out[CELL..]);
-    let n = r.instructions;
-    let m = r.events;
     cells::read::put_cell(head, 0, out, 0);
-    cells::read::put_half(out, 3, n);
-    cells::read::put_half(out, 5, m);
+    cells::read::put_half(out, 3, r.instructions);
+    cells::read::put_half(out, 5, r.events);
     r
 }

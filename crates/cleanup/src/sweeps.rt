@@ -1,22 +1,116 @@
 // The four sweeps over a list of positions, each of which moves what it keeps to the start of the list; and the cells at the positions left.
-ghost use Rattle.std.specs.Prelude.{◌≡◌, map, ◌-◌, ◌/◌, ◌≤◌, ◌<◌, length, take, drop, get_or};
+ghost use Rattle.std.specs.Prelude.{◌≡◌, Bool, map, ◌/◌, ◌≤◌, ◌<◌, length, drop, get_or};
 ghost use Rattle.cells.specs.Cells.{cell_at, flat, over, Put};
-ghost use Rattle.cleanup.specs.Reading.{key_of, seen_at};
-ghost use Rattle.cleanup.specs.Sweeps.{remove_duplicate_consecutive_labels, remove_unreachable_until_label, remove_noop_jumps, remove_redundant_consecutive_loads};
-ghost use Rattle.cleanup.specs.ByKind.{seen_next, goes_of, ended_of, remember_of, sweep_by};
-ghost use Rattle.cleanup.specs.Positions.{see_at, up_from, PositionsListed, Survive};
+ghost use Rattle.cleanup.specs.Reading.{seen_at};
+ghost use Rattle.cleanup.specs.ByState.{label_goes, after_label, cuts_off, unreachable_goes, after_end, jump_goes, load_goes, seen_next, stays_by};
+ghost use Rattle.cleanup.specs.declared.marks.Seen.{Seen};
+ghost use Rattle.cleanup.specs.Positions.{up_from, AllBelow, Survive};
 
-use crate::marks;
-use crate::marks::{Key, Mark, Seen};
+use crate::marks::{Mark, Seen};
 use cells::read::CELL;
 
-// Which sweep.
+// What a sweep removes, as it stands behind the cell just kept.
+pub trait Rule: Copy {
+    ghost goes_of: { Self → Seen → Seen → Bool };
+
+    ghost after_of: { Seen → Self };
+
+    // Whether a cell goes: by the cell just kept, by itself and by the next cell.
+    fn goes(self, here: Seen, next: Seen) -> bool
+        ensures { result ≡ goes_of self here next };
+
+    // The rule behind a cell that stays.
+    fn after(here: Seen) -> Self
+        ensures { result ≡ after_of here };
+}
+
+// 1. A label equal to the one just kept is removed.
 #[derive(Clone, Copy)]
-pub enum SweepKind {
-    Labels,
-    Unreachable,
-    Jumps,
-    Loads,
+pub struct Labels {
+    pub kept: Option<usize>,
+}
+
+impl Rule for Labels {
+    ghost goes_of = { label_goes };
+
+    ghost after_of = { after_label };
+
+    fn goes(self, here: Seen, _next: Seen) -> bool {
+        here.mark == Mark::Label && self.kept == Some(here.operand)
+    }
+
+    fn after(here: Seen) -> Labels {
+        Labels {
+            kept: here.operand_of(Mark::Label),
+        }
+    }
+}
+
+// 2. After a Ret or Jmp everything up to the next label is removed.
+#[derive(Clone, Copy)]
+pub struct Unreachable {
+    pub ended: bool,
+}
+
+impl Unreachable {
+    // Whether a cell can't be reached.
+    pub fn cuts_off(self, here: Seen) -> bool
+        ensures { result ≡ cuts_off self here }
+    {
+        self.ended && here.mark != Mark::Label
+    }
+}
+
+impl Rule for Unreachable {
+    ghost goes_of = { unreachable_goes };
+
+    ghost after_of = { after_end };
+
+    fn goes(self, here: Seen, _next: Seen) -> bool {
+        self.cuts_off(here)
+    }
+
+    fn after(here: Seen) -> Unreachable {
+        Unreachable {
+            ended: here.mark.is_terminal(),
+        }
+    }
+}
+
+// 3. A Jmp whose next cell is its own label is removed.
+#[derive(Clone, Copy)]
+pub struct Jumps;
+
+impl Rule for Jumps {
+    ghost goes_of = { jump_goes };
+
+    ghost after_of = { λ _. record {} };
+
+    fn goes(self, here: Seen, next: Seen) -> bool {
+        here.mark == Mark::Jmp && next.mark == Mark::Label && here.operand == next.operand
+    }
+
+    fn after(_here: Seen) -> Jumps {
+        Jumps
+    }
+}
+
+// 4. A load whose next cell is a load into the same register is removed, whatever they load.
+#[derive(Clone, Copy)]
+pub struct Loads;
+
+impl Rule for Loads {
+    ghost goes_of = { load_goes };
+
+    ghost after_of = { λ _. record {} };
+
+    fn goes(self, here: Seen, next: Seen) -> bool {
+        here.mark == Mark::Load && next.mark == Mark::Load && here.operand == next.operand
+    }
+
+    fn after(_here: Seen) -> Loads {
+        Loads
+    }
 }
 
 // The positions of the cells that cleanup leaves, at the start of the list; how many.
@@ -25,152 +119,64 @@ pub fn survivors(code: &[u8], list: &mut [u16]) -> usize
     ensures { Survive code.now list.old list.new result }
 {
     let n = code.len() / CELL;
-    fill(list, n);
-    let n = remove_duplicate_consecutive_labels(code, list, n);
-    let n = remove_unreachable_until_label(code, list, n);
-    let n = remove_noop_jumps(code, list, n);
-    remove_redundant_consecutive_loads(code, list, n)
+    fill(&mut list[..n]);
+    let n = sweep(code, &mut list[..n], Labels { kept: None });
+    let n = sweep(code, &mut list[..n], Unreachable { ended: false });
+    let n = sweep(code, &mut list[..n], Jumps);
+    sweep(code, &mut list[..n], Loads)
 }
 
-// Writes the cells at the first n positions of a list.
-pub fn copy_out(code: &[u8], list: &[u16], n: usize, out: &mut [u8])
-    requires positions_listed { PositionsListed code.now list.now n }
-    requires n_in_bounds { n ≤ length out.old / 16 }
-    ensures { out.new ≡ over (flat (map (cell_at code.now) (take n list.now))) out.old }
+// Writes the cells at the positions of a list.
+pub fn copy_out(code: &[u8], list: &[u16], out: &mut [u8])
+    requires below { AllBelow (length code.now / 16) list.now }
+    requires room { length list.now ≤ length out.old / 16 }
+    ensures { out.new ≡ over (flat (map (cell_at code.now) list.now)) out.old }
 {
-    let mut i: usize = 0;
-    while i < n {
-        let here = i;
-        i += 1;
-        cells::read::put_cell(code, position(list[here]), out, here);
+    for (i, p) in list.iter().enumerate() {
+        cells::read::put_cell(code, usize::from(*p), out, i);
     }
 }
 
-// 1. A label equal to the one just kept is removed.
-fn remove_duplicate_consecutive_labels(code: &[u8], list: &mut [u16], n: usize) -> usize
-    requires { PositionsListed code.now list.old n }
-    ensures { Put (remove_duplicate_consecutive_labels (see_at code.now) (take n list.old)) list.old list.new result }
+// Sweeps a list of positions by a rule; how many are left, at the start of the list. Each cell is read once.
+pub fn sweep<S: Rule>(code: &[u8], list: &mut [u16], rule: S) -> usize
+    requires { AllBelow (length code.now / 16) list.old }
+    ensures { Put (stays_by (seen_at code.now) S.goes_of S.after_of rule list.old) list.old list.new result }
 {
-    sweep(code, list, n, SweepKind::Labels)
-}
-
-// 2. After a Ret or Jmp everything up to the next label is removed.
-fn remove_unreachable_until_label(code: &[u8], list: &mut [u16], n: usize) -> usize
-    requires { PositionsListed code.now list.old n }
-    ensures { Put (remove_unreachable_until_label (see_at code.now) (take n list.old)) list.old list.new result }
-{
-    sweep(code, list, n, SweepKind::Unreachable)
-}
-
-// 3. A Jmp whose next cell is its own label is removed.
-fn remove_noop_jumps(code: &[u8], list: &mut [u16], n: usize) -> usize
-    requires { PositionsListed code.now list.old n }
-    ensures { Put (remove_noop_jumps (see_at code.now) (take n list.old)) list.old list.new result }
-{
-    sweep(code, list, n, SweepKind::Jumps)
-}
-
-// 4. A load whose next cell is a load into the same register is removed, whatever they load.
-fn remove_redundant_consecutive_loads(code: &[u8], list: &mut [u16], n: usize) -> usize
-    requires { PositionsListed code.now list.old n }
-    ensures { Put (remove_redundant_consecutive_loads (see_at code.now) (take n list.old)) list.old list.new result }
-{
-    sweep(code, list, n, SweepKind::Loads)
-}
-
-// One sweep: a cell goes by what is remembered of the cell just kept, by itself and by the next cell. Each cell is read once.
-pub fn sweep(code: &[u8], list: &mut [u16], n: usize, kind: SweepKind) -> usize
-    requires { PositionsListed code.now list.old n }
-    ensures { Put (sweep_by (see_at code.now) kind (take n list.old)) list.old list.new result }
-{
-    let mut kept: usize = 0;
-    let mut state = Key::Nothing;
-    let mut i: usize = 0;
-    let mut next = seen_next(code, list, n, i);
-    while i < n {
-        let p = list[i];
-        i += 1;
-        let here = next;
-        next = seen_next(code, list, n, i);
-        if !goes(kind, state, here, next) {
-            list[kept] = p;
+    let mut kept = 0;
+    let mut rule = rule;
+    let mut here = seen_next(code, list, 0);
+    for i in 0..list.len() {
+        let next = seen_next(code, list, i + 1);
+        if !rule.goes(here, next) {
+            list[kept] = list[i];
             kept += 1;
-            state = remember(kind, here);
+            rule = S::after(here);
         }
+        here = next;
     }
     kept
 }
 
-fn goes(kind: SweepKind, state: Key, here: Seen, next: Seen) -> bool
-    ensures { result ≡ goes_of kind (key_of state) here next }
-{
-    match kind {
-        SweepKind::Labels => marks::alike(state, marks::operand_of(Mark::Label, here)),
-        SweepKind::Unreachable => {
-            marks::is_there(state) & !marks::is_there(marks::operand_of(Mark::Label, here))
-        }
-        SweepKind::Jumps => marks::alike(
-            marks::operand_of(Mark::Jmp, here),
-            marks::operand_of(Mark::Label, next),
-        ),
-        SweepKind::Loads => marks::alike(
-            marks::operand_of(Mark::Load, here),
-            marks::operand_of(Mark::Load, next),
-        ),
-    }
-}
-
-// What a sweep remembers of a cell that stays: a label's name; that it is a Ret or Jmp.
-fn remember(kind: SweepKind, here: Seen) -> Key
-    ensures { key_of result ≡ remember_of kind here }
-{
-    match kind {
-        SweepKind::Labels => marks::operand_of(Mark::Label, here),
-        SweepKind::Unreachable => {
-            let mark = here.mark;
-            ended(marks::is_terminal(mark))
-        }
-        SweepKind::Jumps => Key::Nothing,
-        SweepKind::Loads => Key::Nothing,
-    }
-}
-
-fn ended(terminal: bool) -> Key
-    ensures { key_of result ≡ ended_of terminal }
-{
-    if terminal { Key::Of(0) } else { Key::Nothing }
-}
-
 // The cell at list[i]; past the end there is nothing to see.
-fn seen_next(code: &[u8], list: &[u16], n: usize, i: usize) -> Seen
-    requires n_in_bounds { n ≤ length list.now }
-    requires i_in_bounds { i < n → get_or list.now i 0 < length code.now / 16 }
-    ensures { result ≡ seen_next (seen_at code.now) (take (n - i) (drop i list.now)) }
+fn seen_next(code: &[u8], list: &[u16], i: usize) -> Seen
+    requires { i < length list.now → get_or list.now i 0 < length code.now / 16 }
+    ensures { result ≡ seen_next (seen_at code.now) (drop i list.now) }
 {
-    if i < n {
-        marks::seen_at(code, position(list[i]))
-    } else {
-        Seen {
+    match list.get(i) {
+        Some(p) => Seen::at(code, usize::from(*p)),
+        None => Seen {
             mark: Mark::Other,
             operand: 0,
-        }
+        },
     }
 }
 
-// The positions 0 to n - 1.
-pub fn fill(list: &mut [u16], n: usize)
-    requires { (n ≤ length list.old) × (n ≤ 65536) }
-    ensures { list.new ≡ over (up_from 0 n) list.old }
+// The positions from 0 on.
+pub fn fill(list: &mut [u16])
+    requires { length list.old ≤ 65536 }
+    ensures { list.new ≡ up_from 0 (length list.old) }
 {
-    let mut i: usize = 0;
-    while i < n {
+    for i in 0..list.len() {
         list[i] = i as u16;
-        i += 1;
     }
-}
-
-pub fn position(p: u16) -> usize
-    ensures { (result ≡ p) × (result < 65536) }
-{
-    p as usize
 }

@@ -1,6 +1,6 @@
 -- What holds of every cell of a function holds of every cell that CrystalFold leaves, if it holds of each load of a computed command's dst.
+use Rattle.std.specs.Prelude.{Option, None, Some}
 use mathlib.Core.Path.{◌≡◌, refl}
-use mathlib.Core.Option.{Option, none, some}
 use mathlib.Core.List.{List, [], ◌∷◌}
 use Prim.Native.Nat.{ℕ}
 use Rattle.cells.specs.Cells.{Cell}
@@ -18,8 +18,8 @@ module _ (Ok : Cell → Type 0) (f : Rules)
   folded_ok t c (comp m o d a b) e k = go (fold₂ (f o) (t a) (t b))
     where
       go : (x : Option Const) → Ok (as_load view f load_cell c d x)
-      go none = k
-      go (some v) = made c m o d a b v k e
+      go None = k
+      go (Some v) = made c m o d a b v k e
   folded_ok t c (label l) e k = k
   folded_ok t c (jmp l) e k = k
   folded_ok t c (jmp_if a l) e k = k

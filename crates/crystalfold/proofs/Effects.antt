@@ -1,7 +1,7 @@
 -- What a cell does to the fold, by its command.
+use Rattle.std.specs.Prelude.{None, Some}
 use mathlib.Core.Path.{◌≡◌, refl, ap}
 use mathlib.Core.Bool.{Bool, true, false, cond}
-use mathlib.Core.Option.{none, some}
 use Prim.Native.Nat.{ℕ, ◌<◌}
 use Rattle.cells.specs.Bytes.{byte}
 use Rattle.cells.specs.Cells.{Cell}
@@ -21,17 +21,17 @@ pub by_class : (c : Cell) {k : Class} → k ≡ class_of (byte c 0) → command_
 unfolding command_of view
 by_class c e = ap (λ (k : Class). command_in (view_as k c)) e
 
-pub forget-optional : (t : Bool) (d : ℕ) → forgetting (cond t none (some d)) ≡ cond t Other (Forget d)
+pub forget-optional : (t : Bool) (d : ℕ) → forgetting (cond t None (Some d)) ≡ cond t Other (Forget d)
 forget-optional true d = refl
 forget-optional false d = refl
 
 -- what an instruction of a command is folded to, and what is known after it
 abbrev pub Effect : Rules → Table → Ins → Command → Type 0
-Effect f t i Barrier = (folded_to f t i ≡ none) × (known_after f t i ≡ unknown)
-Effect f t i (Load d v) = (folded_to f t i ≡ none) × ((k : Const) × (value_of k ≡ v) × (known_after f t i ≡ note d (some k) t))
+Effect f t i Barrier = (folded_to f t i ≡ None) × (known_after f t i ≡ unknown)
+Effect f t i (Load d v) = (folded_to f t i ≡ None) × ((k : Const) × (value_of k ≡ v) × (known_after f t i ≡ note d (Some k) t))
 Effect f t i (Compute o d a b) = (folded_to f t i ≡ fold₂ (f o) (t a) (t b)) × (dst_of i ≡ d) × (known_after f t i ≡ note d (fold₂ (f o) (t a) (t b)) t)
-Effect f t i (Forget d) = (folded_to f t i ≡ none) × (known_after f t i ≡ note d none t)
-Effect f t i Other = (folded_to f t i ≡ none) × (known_after f t i ≡ t)
+Effect f t i (Forget d) = (folded_to f t i ≡ None) × (known_after f t i ≡ note d None t)
+Effect f t i Other = (folded_to f t i ≡ None) × (known_after f t i ≡ t)
 
 pub effect : (f : Rules) (t : Table) (i : Ins) → Effect f t i (command_in i)
 effect f t (load d v) = (refl, (v, refl, refl))
@@ -40,10 +40,10 @@ effect f t (label l) = (refl, refl)
 effect f t (jmp l) = (refl, refl)
 effect f t (jmp_if c l) = (refl, refl)
 effect f t (ret s) = (refl, refl)
-effect f t (act c none true) = (refl, refl)
-effect f t (act c none false) = (refl, refl)
-effect f t (act c (some d) true) = (refl, refl)
-effect f t (act c (some d) false) = (refl, refl)
+effect f t (act c None true) = (refl, refl)
+effect f t (act c None false) = (refl, refl)
+effect f t (act c (Some d) true) = (refl, refl)
+effect f t (act c (Some d) false) = (refl, refl)
 
 -- a command's registers are in the table
 abbrev pub Within : Command → Type 0
@@ -60,7 +60,7 @@ within (label l) h = tt
 within (jmp l) h = tt
 within (jmp_if c l) h = tt
 within (ret s) h = tt
-within (act c none true) h = tt
-within (act c none false) h = tt
-within (act c (some d) true) h = tt
-within (act c (some d) false) h = h
+within (act c None true) h = tt
+within (act c None false) h = tt
+within (act c (Some d) true) h = tt
+within (act c (Some d) false) h = h

@@ -1,6 +1,6 @@
 -- CrystalFold keeps the number of cells, and folds no more than there are.
+use Rattle.std.specs.Prelude.{Option, None, Some}
 use mathlib.Core.Path.{◌≡◌, refl}
-use mathlib.Core.Option.{Option, none, some}
 use mathlib.Core.List.{List, [], ◌∷◌}
 use Prim.Native.Nat.{◌≤◌}
 use native.Mathlib.Omega.{arith}
@@ -13,8 +13,8 @@ use Rattle.crystalfold.specs.Fold.{Table, unknown, folded_to, known_after, one_i
 use Rattle.crystalfold.specs.CrystalFold.{fold_code, folds_of}
 
 pub at_most_one : (k : Option Const) → one_if k ≤ 1
-at_most_one none = omega arith
-at_most_one (some v) = omega arith
+at_most_one None = omega arith
+at_most_one (Some v) = omega arith
 
 module _ (f : Rules) where
   fold-length : (t : Table) (p : List Cell) → length (fold view f load_cell t p) ≡ length p

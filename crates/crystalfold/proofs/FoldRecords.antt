@@ -1,8 +1,8 @@
 -- The records theorem of CrystalFold, for any sound rules: the registers hold what the table knows of them, so a folded cell does what the
 -- cell did. No premise is needed.
+use Rattle.std.specs.Prelude.{Option, None, Some}
 use mathlib.Core.Path.{◌≡◌, refl, ap, ◌∙◌}
 use mathlib.Core.Bool.{true, false}
-use mathlib.Core.Option.{Option, none, some}
 use mathlib.Core.List.{List, ◌∷◌, map, nil≢cons}
 use Prim.Native.Nat.{ℕ}
 use lib.Dec.{eqb}
@@ -26,12 +26,12 @@ use Rattle.crystalfold.proofs.FoldJumps.{folds, seek-fold}
 
 -- the registers hold what is known of them
 abbrev Holds : Table → Regs → Type 0
-Holds t r = (x : ℕ) (v : Const) → t x ≡ some v → r x ≡ con v
+Holds t r = (x : ℕ) (v : Const) → t x ≡ Some v → r x ≡ con v
 
 holds-unknown : (r : Regs) → Holds unknown r
 holds-unknown r x v e = cc
 
-holds-note : (t : Table) (r : Regs) (d : ℕ) (k : Option Const) (w : Value) → ((v : Const) → k ≡ some v → w ≡ con v) → Holds t r → Holds (note d k t) (set d w r)
+holds-note : (t : Table) (r : Regs) (d : ℕ) (k : Option Const) (w : Value) → ((v : Const) → k ≡ Some v → w ≡ con v) → Holds t r → Holds (note d k t) (set d w r)
 unfolding note set
 holds-note t r d k w f h x v e = by_test (eqb x d)
     (λ y. rw y (f v (rw y at e)))
@@ -39,22 +39,22 @@ holds-note t r d k w f h x v e = by_test (eqb x d)
 
 holds-forget : (t : Table) (r : Regs) (d : Option ℕ) (w : Value) → Holds t r → Holds (forget d t) (put d w r)
 unfolding put
-holds-forget t r none w h = h
-holds-forget t r (some d) w h = holds-note t r d none w (λ v e. cc) h
+holds-forget t r None w h = h
+holds-forget t r (Some d) w h = holds-note t r d None w (λ v e. cc) h
 
 module _ (f : Rules) (sound : Sound f) where
   abbrev ρ : Rel
   ρ p r q s = (t : Table) × (q ≡ folds f t p) × (r ≡ s) × Holds t r
 
   -- a fold's value is what the command computes
-  fold-value : (o : ℕ) (x y : Option Const) (a b : Value) (v : Const) → ((u : Const) → x ≡ some u → a ≡ con u) → ((u : Const) → y ≡ some u → b ≡ con u) → fold₂ (f o) x y ≡ some v → compute o a b ≡ value v
+  fold-value : (o : ℕ) (x y : Option Const) (a b : Value) (v : Const) → ((u : Const) → x ≡ Some u → a ≡ con u) → ((u : Const) → y ≡ Some u → b ≡ con u) → fold₂ (f o) x y ≡ Some v → compute o a b ≡ value v
   unfolding Sound
-  fold-value o none y a b v g h e = let n : fold₂ (f o) none y ≡ none = ap written_of (left-unknown (f o) (known_of y)) in cc
-  fold-value o (some x) none a b v g h e = let n : fold₂ (f o) (some x) none ≡ none = ap written_of (right-unknown (f o) (known_of (some x))) in cc
-  fold-value o (some x) (some y) a b v g h e = rw (g x refl, h y refl) (sound o x y v e)
+  fold-value o None y a b v g h e = let n : fold₂ (f o) None y ≡ None = ap written_of (left-unknown (f o) (known_of y)) in cc
+  fold-value o (Some x) None a b v g h e = let n : fold₂ (f o) (Some x) None ≡ None = ap written_of (right-unknown (f o) (known_of (Some x))) in cc
+  fold-value o (Some x) (Some y) a b v g h e = rw (g x refl, h y refl) (sound o x y v e)
 
   -- a folded cell does what the cell did
-  exec-folded : (t : Table) (i : Ins) (r : Regs) (v : Const) → Holds t r → folded_to f t i ≡ some v → exec i r ≡ on (set (dst_of i) (con v) r)
+  exec-folded : (t : Table) (i : Ins) (r : Regs) (v : Const) → Holds t r → folded_to f t i ≡ Some v → exec i r ≡ on (set (dst_of i) (con v) r)
   unfolding exec
   exec-folded t (load d w) r v h e = cc
   exec-folded t (comp c o d a b) r v h e = rw (fold-value o (t a) (t b) (r a) (r b) v (h a) (h b) e)
@@ -78,7 +78,7 @@ module _ (f : Rules) (sound : Sound f) where
 
   holds-known : (t : Table) (i : Ins) (r r' : Regs) → Holds t r → After (exec i r) r r' → Holds (known_after f t i) r'
   unfolding exec
-  holds-known t (load d v) r r' h x = rw x (holds-note t r d (some v) (con v) (λ w e. cc) h)
+  holds-known t (load d v) r r' h x = rw x (holds-note t r d (Some v) (con v) (λ w e. cc) h)
   holds-known t (comp c o d a b) r r' h x = holds_comp t c o d a b r r' h (compute o (r a) (r b)) refl x
   holds-known t (label l) r r' h x = holds-unknown r'
   holds-known t (jmp l) r r' h x = absurd x
@@ -92,8 +92,8 @@ module _ (f : Rules) (sound : Sound f) where
     advance i p r q s x = go x.0 x.1 x.3 (folded_to f x.0 i) refl
       where
         go : (t : Table) → q ≡ folds f t (i ∷ p) → Holds t r → (k : Option Const) → folded_to f t i ≡ k → Advance P ρ i p r q s
-        go t y h none e = same (folds f (known_after f t i) p) (y ∙ rw e) x.2 (λ r' a. (known_after f t i, refl, refl, holds-known t i r r' h a))
-        go t y h (some v) e = alike (load (dst_of i) v) (folds f (known_after f t i) p) (set (dst_of i) (con v) r) (y ∙ rw e) (exec-folded t i r v h e) (rw (← x.2) (exec_load (dst_of i) v r))
+        go t y h None e = same (folds f (known_after f t i) p) (y ∙ rw e) x.2 (λ r' a. (known_after f t i, refl, refl, holds-known t i r r' h a))
+        go t y h (Some v) e = alike (load (dst_of i) v) (folds f (known_after f t i) p) (set (dst_of i) (con v) r) (y ∙ rw e) (exec-folded t i r v h e) (rw (← x.2) (exec_load (dst_of i) v r))
             (known_after f t i, refl, refl, holds-known t i r (set (dst_of i) (con v) r) h (rw (exec-folded t i r v h e) refl))
 
     simulation : Simulation P (folds f unknown P) ρ

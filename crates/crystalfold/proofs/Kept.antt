@@ -1,8 +1,8 @@
 -- Every cell that isn't folded keeps all its bytes: a cell of the result is the one sent, or the load of a computed command's dst in its
 -- place.
+use Rattle.std.specs.Prelude.{Option, None, Some}
 use mathlib.Core.Path.{◌≡◌, refl}
 use mathlib.Core.Logic.{◌⊎◌, inl, inr}
-use mathlib.Core.Option.{Option, none, some}
 use mathlib.Core.List.{List, [], ◌∷◌}
 use Prim.Native.Nat.{ℕ, zero, suc, ◌<◌}
 use native.Mathlib.Nat.{le_of_suc-le-suc, not-suc-le-zero}
@@ -32,8 +32,8 @@ module _ (f : Rules) where
   one_cell t c (comp c' o d a b) e = go (fold₂ (f o) (t a) (t b))
     where
       go : (k : Option Const) → (as_load view f load_cell c d k ≡ c) ⊎ Replaced c (as_load view f load_cell c d k)
-      go none = inl refl
-      go (some v) = inr (record { cell = c'; command = o; dst = d; lhs = a; rhs = b; result = v; is = e; by = refl })
+      go None = inl refl
+      go (Some v) = inr (record { cell = c'; command = o; dst = d; lhs = a; rhs = b; result = v; is = e; by = refl })
   one_cell t c (label l) e = inl refl
   one_cell t c (jmp l) e = inl refl
   one_cell t c (jmp_if r l) e = inl refl

@@ -14,3 +14,4 @@ pub mod Agreement
 pub mod Written
 pub mod Turn
 pub mod Kept
+pub mod LoadBytes

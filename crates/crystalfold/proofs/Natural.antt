@@ -1,6 +1,6 @@
 -- Naturality: the fold over whatever stands for cells is the fold over the cells.
+use Rattle.std.specs.Prelude.{Option, None, Some}
 use mathlib.Core.Path.{◌≡◌, refl, ap, ap₂}
-use mathlib.Core.Option.{Option, none, some}
 use mathlib.Core.List.{List, [], ◌∷◌, map}
 use Prim.Native.Nat.{ℕ, ◌+◌}
 use Rattle.cells.specs.Ins.{Const, Ins}
@@ -18,8 +18,8 @@ module _ {C D : Type 0} (see : D → Ins) (h : C → D) (f : Rules) where
 
   module _ (make : ℕ → Const → C) (make' : ℕ → Const → D) (made : (d : ℕ) (v : Const) → h (make d v) ≡ make' d v) where
     map-as_load : (c : C) (d : ℕ) (k : Option Const) → h (as_load through f make c d k) ≡ as_load see f make' (h c) d k
-    map-as_load c d none = refl
-    map-as_load c d (some v) = made d v
+    map-as_load c d None = refl
+    map-as_load c d (Some v) = made d v
 
     pub map-fold : (t : Table) (p : List C) → map h (fold through f make t p) ≡ fold see f make' t (map h p)
     map-fold t [] = refl

@@ -1,8 +1,8 @@
 -- One turn of the fold's loop.
+use Rattle.std.specs.Prelude.{Option, None, Some}
 use Prim.Native.Nat.{ℕ, suc, ◌+◌, ◌-◌, ◌*◌, ◌/◌, ◌≤◌, ◌<◌}
 use mathlib.Core.Path.{◌≡◌, refl, sym, ap, ap₂, subst, ◌∙◌}
 use mathlib.Core.Bool.{true, false≢true}
-use mathlib.Core.Option.{Option, none, some}
 use mathlib.Core.List.{List, [], ◌++◌, append_assoc, append-nil}
 use native.Mathlib.Nat.{add-zero, add_assoc, zero-add, sub-zero}
 use native.Mathlib.Omega.{arith}
@@ -23,13 +23,14 @@ use Rattle.machine.specs.Evaluate.{evaluate}
 use Rattle.crystalfold.specs.Rules.{Rules, fold₂, rules_of}
 use Rattle.crystalfold.specs.Fold.{Table, unknown, note, folded_to, dst_of, known_after, one_if, fold, fold_count, as_load}
 use Rattle.crystalfold.specs.CrystalFold.{fold_code, folds_of}
+use Rattle.crystalfold.specs.Known.{NothingKnown}
 use Rattle.crystalfold.specs.Commands.{command_of}
 use Rattle.crystalfold.specs.InPlace.{Foldable, Folded, Computed, cell_or, load_or_zeros}
 use Rattle.crystalfold.specs.declared.rules.RuleSet.{RuleSet}
 use Rattle.crystalfold.specs.declared.command.Command.{Command}
 use Rattle.crystalfold.specs.declared.command.Command.TheVariants.{Barrier, Load, Compute, Forget, Other}
 use Rattle.crystalfold.proofs.FoldCounts.{at_most_one}
-use Rattle.crystalfold.proofs.Agreement.{Agree, all_unknown, agree_unknown, agree_note}
+use Rattle.crystalfold.proofs.Agreement.{Agree, agree_note}
 use Rattle.crystalfold.proofs.Effects.{Effect, effect, Within, within}
 
 -- n cells of s, folded from the table t on, as bytes; and how many folds that is
@@ -56,11 +57,11 @@ pub record Done (s : RuleSet) (bytes₀ : List ℕ) (n : ℕ) (bytes : List ℕ)
   pub counted : count + count_from (rules_of s) (n - i) table (drop (16 * i) bytes) ≡ count_from (rules_of s) n unknown bytes₀
 
 pub or-length : (c : Cell) (d : ℕ) (k : Option Const) → length c ≡ 16 → length (cell_or c d k) ≡ 16
-or-length c d none h = h
-or-length c d (some k) h = load_length d k
+or-length c d None h = h
+or-length c d (Some k) h = load_length d k
 
 -- a known value is written: its load stands in place of the cell, and counts 1
-has_bits : (v : ConstVal) → is_known v ≡ true → (k : Const) × (written_of v ≡ some k)
+has_bits : (v : ConstVal) → is_known v ≡ true → (k : Const) × (written_of v ≡ Some k)
 has_bits Unknown h = absurd (false≢true h)
 has_bits (QuadV q) h = (_, refl)
 has_bits (BoolV b) h = (_, refl)
@@ -78,8 +79,8 @@ counts-one v h = let (k, e) = has_bits v h in rw e
 -- the first of the cells, and those behind it
 module _ (f : Rules) (t : Table) (s : List ℕ) (m : ℕ) where
   as_load_lem : (d : ℕ) (k : Option Const) → as_load view f load_cell (take 16 s) d k ≡ cell_or (take 16 s) d k
-  as_load_lem d none = refl
-  as_load_lem d (some k) = refl
+  as_load_lem d None = refl
+  as_load_lem d (Some k) = refl
 
   module _ (d : ℕ) (k : Option Const) (t' : Table) (ed : dst_of (view (take 16 s)) ≡ d) (ek : folded_to f t (view (take 16 s)) ≡ k) (et : known_after f t (view (take 16 s)) ≡ t') where
     fold_suc : fold_from f (suc m) t s ≡ cell_or (take 16 s) d k ++ fold_from f m t' (drop 16 s)
@@ -165,12 +166,12 @@ module _ {s : RuleSet} {bytes₀ : List ℕ} {n : ℕ} {bytes : List ℕ} {held 
       }
 
   turn_kept : (d : Done s bytes₀ n bytes held count i) → i < n → (t' : Table) {held' : List ConstVal}
-      → folded_to (rules_of s) d.table (view (cell_at bytes i)) ≡ none
+      → folded_to (rules_of s) d.table (view (cell_at bytes i)) ≡ None
       → known_after (rules_of s) d.table (view (cell_at bytes i)) ≡ t' → Agree held' t'
       → Done s bytes₀ n bytes held' count (i + 1)
   turn_kept d h t' {held'} ek et a =
       subst (λ (x : List ℕ). Done s bytes₀ n x held' count (i + 1)) (kept (16 * i) bytes)
-      (turn d h (dst_of (view (cell_at bytes i))) none t' refl ek et a count (sym (add-zero count)))
+      (turn d h (dst_of (view (cell_at bytes i))) None t' refl ek et a count (sym (add-zero count)))
 
   -- by command
   module _ (d : Done s bytes₀ n bytes held count i) (h : i < n) {r : Command} (e : r ≡ command_of (cell_at bytes i)) where
@@ -195,12 +196,12 @@ module _ {s : RuleSet} {bytes₀ : List ℕ} {n : ℕ} {bytes : List ℕ} {held 
       pub turn_load : {x : ℕ} {v : ConstVal} → r ≡ Load x v → Done s bytes₀ n bytes (set held x v) count (i + 1)
       turn_load {x} {v} b =
           let (none-folded, (k, kv, after)) = effect_now d e b in
-          turn_kept d h (note x (some k) d.table) none-folded after (agree_note held d.table x v (some k) (in_table (bound b)) kv d.agree)
+          turn_kept d h (note x (Some k) d.table) none-folded after (agree_note held d.table x v (Some k) (in_table (bound b)) kv d.agree)
 
       pub turn_forget : {x : ℕ} → r ≡ Forget x → Done s bytes₀ n bytes (set held x Unknown) count (i + 1)
       turn_forget {x} b =
           let (none-folded, after) = effect_now d e b in
-          turn_kept d h (note x none d.table) none-folded after (agree_note held d.table x Unknown none (in_table (bound b)) refl d.agree)
+          turn_kept d h (note x None d.table) none-folded after (agree_note held d.table x Unknown None (in_table (bound b)) refl d.agree)
 
       -- v is what the command comes to, or Unknown
       pub turn_compute : {o x a b : ℕ} {v : ConstVal} {bytes' : List ℕ} → r ≡ Compute o x a b
@@ -215,13 +216,13 @@ module _ {s : RuleSet} {bytes₀ : List ℕ} {n : ℕ} {bytes : List ℕ} {held 
           (turn d h x (written_of v) (note x (written_of v) t) dst (folded ∙ w) (after ∙ ap (λ (k : Option Const). note x k t) w)
           (agree_note held t x v (written_of v) (in_table (bound c).0) p.put.read_back d.agree) count' ec)
 
-pub start : {s : RuleSet} {bytes : List ℕ} {held : List ConstVal} → Foldable bytes → all_unknown held ≡ true → Done s bytes (length bytes / 16) bytes held 0 0
+pub start : {s : RuleSet} {bytes : List ℕ} {held : List ConstVal} → Foldable bytes → NothingKnown held → Done s bytes (length bytes / 16) bytes held 0 0
 start {s} {bytes} {held} h u =
     let z : length bytes / 16 ≡ length bytes / 16 - 0 = sym (sub-zero (length bytes / 16)) in
     let whole = h.whole in
     record {
       table = unknown;
-      agree = agree_unknown held u;
+      agree = u.at;
       upto = omega arith;
       room = omega arith;
       same = refl;

@@ -1,11 +1,8 @@
 -- The fold reads of a leaf's answer only whether there is a value (document 02, W5): with the leaves' reasons left out, as the rules were before there
 -- were any, the cells and the count are the same.
 use mathlib.Core.Path.{◌≡◌, refl, ap, ap₂, ◌∙◌}
-use mathlib.Core.Option.{Option, none, some, map}
 use mathlib.Core.List.{List, [], ◌∷◌}
 use Prim.Native.Nat.{ℕ, ◌+◌}
-use Rattle.leaves.specs.declared.verdict.Verdict.{Verdict}
-use Rattle.leaves.specs.declared.verdict.Verdict.TheVariants.{Value, LeftUnknown, RightUnknown, Unfit, DivisorZero, OutOfRange, NotComputed}
 use Rattle.leaves.specs.Verdicts.{value_in}
 use Rattle.leaves.proofs.WithoutReasons.{without_reason}
 use Rattle.cells.specs.Cells.{Cell}
@@ -18,19 +15,22 @@ use Rattle.machine.proofs.WithoutReasons.{without_reasons, evaluated}
 use Rattle.crystalfold.specs.Rules.{Rules, known_of, fold₂}
 use Rattle.crystalfold.specs.Fold.{Table, unknown, note, folded_to, dst_of, known_after, one_if, fold_count, as_load, fold}
 use Rattle.crystalfold.specs.CrystalFold.{fold_code, folds_of, fold_function}
+use Rattle.std.specs.Prelude.{Ok, Err, Option, None, Some, option_map}
+use Rattle.leaves.specs.Verdict.{Verdict}
+use Rattle.leaves.specs.declared.verdict.Decline.TheVariants.{LeftUnknown, RightUnknown, Unfit, DivisorZero, OutOfRange, NotComputed}
 
 -- rules whose leaves give no reason
 abbrev pub reasonless : Rules → Rules
-reasonless f = λ o. map without_reasons (f o)
+reasonless f = λ o. option_map without_reasons (f o)
 
 value_without : (v : Verdict) → value_in (without_reason v) ≡ value_in v
-value_without (Value v) = refl
-value_without LeftUnknown = refl
-value_without RightUnknown = refl
-value_without Unfit = refl
-value_without DivisorZero = refl
-value_without OutOfRange = refl
-value_without NotComputed = refl
+value_without (Ok v) = refl
+value_without (Err LeftUnknown) = refl
+value_without (Err RightUnknown) = refl
+value_without (Err Unfit) = refl
+value_without (Err DivisorZero) = refl
+value_without (Err OutOfRange) = refl
+value_without (Err NotComputed) = refl
 
 module _ (f : Rules) where
   same-value : (o : ℕ) (x y : Option Const) → fold₂ (reasonless f o) x y ≡ fold₂ (f o) x y
@@ -63,8 +63,8 @@ module _ (f : Rules) where
 
     module _ (make : ℕ → Const → C) where
       same_load : (c : C) (d : ℕ) (k : Option Const) → as_load see (reasonless f) make c d k ≡ as_load see f make c d k
-      same_load c d none = refl
-      same_load c d (some v) = refl
+      same_load c d None = refl
+      same_load c d (Some v) = refl
 
       same_fold : (t : Table) (p : List C) → fold see (reasonless f) make t p ≡ fold see f make t p
       same_fold t [] = refl

@@ -1,7 +1,6 @@
 -- Inner: what an instruction is to the fold, with its constants as values: a barrier, a load, a computed command, a command that only writes a
 -- register, any other.
-use Rattle.std.specs.Prelude.{Bool, cond, ℕ, eqb}
-use Rattle.std.proofs.Math.Option.{Option, none, some}
+use Rattle.std.specs.Prelude.{Bool, cond, ℕ, eqb, Option, None, Some}
 use Rattle.cells.specs.Cells.{Cell}
 use Rattle.cells.specs.Ins.{Ins, load, comp, label, jmp, jmp_if, ret, act}
 use Rattle.cells.specs.View.{view}
@@ -14,8 +13,8 @@ abbrev pub acting : Bool → Command → Command
 acting b c = cond b Barrier c
 
 abbrev pub forgetting : Option ℕ → Command
-forgetting none = Other
-forgetting (some d) = Forget d
+forgetting None = Other
+forgetting (Some d) = Forget d
 
 -- the same by the presence byte
 abbrev pub optional_dst : ℕ → ℕ → Command

@@ -1,7 +1,6 @@
 -- Promise: CrystalFold's pass, from left to right (document 01, module 5), over cells of any form: `see` says what a cell is, and `make d v` is the cell
 -- that loads v into d. Its rules are a parameter.
-use Rattle.std.specs.Prelude.{cond, List, [], ◌∷◌, ℕ, ◌+◌, eqb}
-use Rattle.std.proofs.Math.Option.{Option, none, some}
+use Rattle.std.specs.Prelude.{cond, List, [], ◌∷◌, ℕ, ◌+◌, eqb, Option, None, Some}
 use Rattle.cells.specs.Ins.{Const, Ins, load, comp, label, jmp, jmp_if, ret, act}
 use Rattle.crystalfold.specs.Rules.{Rules, fold₂}
 
@@ -10,7 +9,7 @@ abbrev pub Table : Type 0
 Table = ℕ → Option Const
 
 abbrev pub unknown : Table
-unknown = λ x. none
+unknown = λ x. None
 
 -- the same, with k known of register d
 unfoldable pub note : ℕ → Option Const → Table → Table
@@ -18,18 +17,18 @@ note d k t = λ x. cond (eqb x d) k (t x)
 
 -- an optional dst that is absent forgets nothing
 abbrev pub forget : Option ℕ → Table → Table
-forget none t = t
-forget (some d) t = note d none t
+forget None t = t
+forget (Some d) t = note d None t
 
 -- the value that a cell is folded to
 abbrev pub folded_to : Rules → Table → Ins → Option Const
-folded_to f t (load d v) = none
+folded_to f t (load d v) = None
 folded_to f t (comp c o d a b) = fold₂ (f o) (t a) (t b)
-folded_to f t (label l) = none
-folded_to f t (jmp l) = none
-folded_to f t (jmp_if c l) = none
-folded_to f t (ret s) = none
-folded_to f t (act c d b) = none
+folded_to f t (label l) = None
+folded_to f t (jmp l) = None
+folded_to f t (jmp_if c l) = None
+folded_to f t (ret s) = None
+folded_to f t (act c d b) = None
 
 abbrev pub dst_of : Ins → ℕ
 dst_of (load d v) = d
@@ -42,7 +41,7 @@ dst_of (act c d b) = 0
 
 -- what is known after a cell: a load's value, a fold's or nothing of a computed command's dst; nothing at all after a barrier
 abbrev pub known_after : Rules → Table → Ins → Table
-known_after f t (load d v) = note d (some v) t
+known_after f t (load d v) = note d (Some v) t
 known_after f t (comp c o d a b) = note d (fold₂ (f o) (t a) (t b)) t
 known_after f t (label l) = unknown
 known_after f t (jmp l) = unknown
@@ -52,8 +51,8 @@ known_after f t (act c d b) = cond b unknown (forget d t)
 
 -- each fold counts 1
 abbrev pub one_if : Option Const → ℕ
-one_if none = 0
-one_if (some v) = 1
+one_if None = 0
+one_if (Some v) = 1
 
 module _ {C : Type 0} (see : C → Ins) (f : Rules) where
   abbrev pub fold_count : Table → List C → ℕ
@@ -62,8 +61,8 @@ module _ {C : Type 0} (see : C → Ins) (f : Rules) where
 
   module _ (make : ℕ → Const → C) where
     abbrev pub as_load : C → ℕ → Option Const → C
-    as_load c d none = c
-    as_load c d (some v) = make d v
+    as_load c d None = c
+    as_load c d (Some v) = make d v
 
     abbrev pub fold : Table → List C → List C
     fold t [] = []

@@ -1,6 +1,5 @@
 -- Inner: the fold of cells in place: the instruction cells of a function, or all cells of an image, of which heads and events stay as they are.
-use Rattle.std.specs.Prelude.{◌≡◌, cond, List, ◌++◌, ℕ, ◌+◌, ◌*◌, ◌%◌, ltb, length, set, take, drop, replicate}
-use Rattle.std.proofs.Math.Option.{Option, none, some}
+use Rattle.std.specs.Prelude.{◌≡◌, cond, List, ◌++◌, ℕ, ◌+◌, ◌*◌, ◌%◌, ltb, length, set, take, drop, replicate, Option, None, Some}
 use Rattle.leaves.specs.declared.constant.ConstVal.{ConstVal}
 use Rattle.leaves.specs.Verdicts.{value_in}
 use Rattle.cells.specs.Lists.{All}
@@ -27,13 +26,13 @@ pub record Folded (s : RuleSet) (before after : List ℕ) (count : ℕ) : Type 0
 
 -- a cell c, or in its place the load of what it is folded to
 abbrev pub cell_or : Cell → ℕ → Option Const → Cell
-cell_or c d none = c
-cell_or c d (some k) = load_cell d k
+cell_or c d None = c
+cell_or c d (Some k) = load_cell d k
 
 -- the cell that loads what is known into d; zeros where nothing is
 abbrev pub load_or_zeros : ℕ → Option Const → Cell
-load_or_zeros d none = replicate 16 0
-load_or_zeros d (some k) = load_cell d k
+load_or_zeros d None = replicate 16 0
+load_or_zeros d (Some k) = load_cell d k
 
 -- the load of v, if it is known, stands at the position k. Its bits are those of v: read back, they give it
 pub record PutLoad (k dst : ℕ) (before after : List ℕ) (v : ConstVal) : Type 0 where

@@ -6,3 +6,4 @@ pub mod Arms
 pub mod Commands
 pub mod InPlace
 pub mod Cases
+pub mod Known

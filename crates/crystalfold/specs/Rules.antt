@@ -1,7 +1,6 @@
 -- Promise: the rules of a fold, and the rule sets. Each set has a table of its own from command to meaning, which the fold evaluates as the run does its
 -- own (machine/specs/Evaluate.antt); no set is defined through the running rule.
-use Rattle.std.specs.Prelude.{◌≡◌, Bool, ◌&&◌, ◌||◌, not, List, [], ◌∷◌, ℕ, ltb, leb}
-use Rattle.std.proofs.Math.Option.{Option, none, some}
+use Rattle.std.specs.Prelude.{◌≡◌, Bool, ◌&&◌, ◌||◌, not, List, [], ◌∷◌, ℕ, ltb, leb, Option, None, Some}
 use Rattle.std.specs.Int.Signed.{lt_z, le_z}
 use Rattle.leaves.specs.declared.quad.Quad.{Quad}
 use Rattle.leaves.specs.declared.constant.ConstVal.{ConstVal}
@@ -25,8 +24,8 @@ Rules = ℕ → Option Meaning
 
 -- the value of what is known of an operand
 abbrev pub known_of : Option Const → ConstVal
-known_of none = Unknown
-known_of (some k) = value_of k
+known_of None = Unknown
+known_of (Some k) = value_of k
 
 -- the constant that a command is folded to, by its meaning and what is known of its operands: the evaluator's value, if it has one
 abbrev pub fold₂ : Option Meaning → Option Const → Option Const → Option Const
@@ -34,7 +33,7 @@ fold₂ m x y = written_of (value_in (evaluate m (known_of x) (known_of y)))
 
 -- rules that give only what a command computes
 unfoldable pub Sound : Rules → Type 0
-Sound f = (o : ℕ) (a b v : Const) → fold₂ (f o) (some a) (some b) ≡ some v → compute o (con a) (con b) ≡ value v
+Sound f = (o : ℕ) (a b v : Const) → fold₂ (f o) (Some a) (Some b) ≡ Some v → compute o (con a) (con b) ≡ value v
 
 -- the Rust's rules, the 31 commands of document 01's modules 1, 2 and 5: "A command of modules 1 and 2, a Bool command or a comparison"; "QTruth
 -- commands aren't folded"

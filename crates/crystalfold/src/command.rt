@@ -8,11 +8,11 @@ ghost use Rattle.crystalfold.specs.Commands.{command_of, acting, optional_dst};
 use cells::table::Class;
 use cells::{read, table};
 use leaves::constant::ConstVal;
-use leaves::quad::{Quad, QuadResult};
-use leaves::{float, quad, signed};
+use leaves::float;
+use leaves::quad::Quad;
 
 // A barrier; a load's dst and value; a computed command with its byte, dst, lhs and rhs; another command that writes a
-// register; any other.
+// register; any other. (A computed command keeps its byte: the definition of what is computed goes by it.)
 #[derive(Clone, Copy)]
 pub enum Command {
     Barrier,
@@ -42,10 +42,10 @@ pub fn decode(c: &[u8]) -> Command
         ),
         Class::LoadI32 => Command::Load(
             dst,
-            ConstVal::I32(signed::of_bits(read::word(c, 3) as u32)),
+            ConstVal::I32((read::word(c, 3) as u32).cast_signed()),
         ),
         Class::LoadU32 => Command::Load(dst, ConstVal::U32(read::word(c, 3) as u32)),
-        Class::LoadFx => Command::Load(dst, ConstVal::Fx(signed::of_bits(read::word(c, 3) as u32))),
+        Class::LoadFx => Command::Load(dst, ConstVal::Fx((read::word(c, 3) as u32).cast_signed())),
         Class::Unary => Command::Compute(op, dst, read::half(c, 3), read::half(c, 3)),
         Class::Binary => Command::Compute(op, dst, read::half(c, 3), read::half(c, 5)),
         Class::Label => Command::Barrier,
@@ -93,8 +93,5 @@ fn optional_dst(presence: u8, dst: usize) -> Command
 fn read_quad(n: u8) -> Quad
     ensures { result ≡ read_quad (quad_of n) }
 {
-    let QuadResult::Value(q) = quad::quad_of(n) else {
-        return Quad::S;
-    };
-    q
+    Quad::try_from(n).unwrap_or(Quad::S)
 }

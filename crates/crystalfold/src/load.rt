@@ -1,6 +1,6 @@
 // The cell that loads a known value, written where its command stood.
 ghost use Rattle.std.specs.Prelude.{◌≡◌, ◌/◌, ◌<◌, length};
-ghost use Rattle.cells.specs.View.{load_bytes, bool_number};
+ghost use Rattle.cells.specs.View.{load_bytes};
 ghost use Rattle.crystalfold.specs.Fold.{one_if};
 ghost use Rattle.machine.specs.Values.{written_of};
 ghost use Rattle.crystalfold.specs.Rules.{known_of};
@@ -8,7 +8,7 @@ ghost use Rattle.crystalfold.specs.InPlace.{PutLoad, load_or_zeros};
 
 use cells::read;
 use leaves::constant::ConstVal;
-use leaves::{float, quad, signed};
+use leaves::float;
 
 // The load commands.
 const LOAD_BOOL: u8 = 0x28;
@@ -42,10 +42,10 @@ pub fn put_load(s: &mut [u8], k: usize, dst: usize, v: ConstVal)
 pub fn one_if(v: ConstVal) -> usize
     ensures { result ≡ one_if (written_of v) }
 {
-    if let ConstVal::Unknown = v {
-        return 0;
+    match v {
+        ConstVal::Unknown => 0,
+        _ => FOLD,
     }
-    FOLD
 }
 
 // The load of v into dst: the command, dst, the value's bits and zeros. Of an unknown value there is none, and
@@ -56,89 +56,21 @@ pub fn load_cell(dst: usize, v: ConstVal) -> [u8; 16]
 {
     match v {
         ConstVal::Unknown => [0; 16],
-        ConstVal::Quad(q) => load_byte(LOAD_Q, dst, quad::number_of(q)),
-        ConstVal::Bool(b) => load_byte(LOAD_BOOL, dst, bool_number(b)),
-        ConstVal::F64(x) => load_long(LOAD_F64, dst, float::to_bits(x)),
-        ConstVal::I32(a) => load_word(LOAD_I32, dst, signed::bits_of(a)),
-        ConstVal::U32(a) => load_word(LOAD_U32, dst, a),
-        ConstVal::Fx(a) => load_word(LOAD_FX, dst, signed::bits_of(a)),
+        ConstVal::Quad(q) => load(LOAD_Q, dst, u64::from(u8::from(q))),
+        ConstVal::Bool(b) => load(LOAD_BOOL, dst, u64::from(b)),
+        ConstVal::F64(x) => load(LOAD_F64, dst, float::to_bits(x)),
+        ConstVal::I32(a) => load(LOAD_I32, dst, u64::from(a.cast_unsigned())),
+        ConstVal::U32(a) => load(LOAD_U32, dst, u64::from(a)),
+        ConstVal::Fx(a) => load(LOAD_FX, dst, u64::from(a.cast_unsigned())),
     }
 }
 
-fn bool_number(b: bool) -> u8
-    ensures { result ≡ bool_number b }
-{
-    if b { 1 } else { 0 }
-}
-
-fn load_byte(command: u8, dst: usize, n: u8) -> [u8; 16]
-    requires { dst < 65536 }
-    ensures { result ≡ load_bytes command dst 1 n }
-{
-    [
-        command,
-        (dst % 256) as u8,
-        (dst / 256) as u8,
-        n,
-        0,
-        0,
-        0,
-        0,
-        0,
-        0,
-        0,
-        0,
-        0,
-        0,
-        0,
-        0,
-    ]
-}
-
-fn load_word(command: u8, dst: usize, n: u32) -> [u8; 16]
-    requires { dst < 65536 }
-    ensures { result ≡ load_bytes command dst 4 n }
-{
-    [
-        command,
-        (dst % 256) as u8,
-        (dst / 256) as u8,
-        (n % 256) as u8,
-        (n / 256 % 256) as u8,
-        (n / 256 / 256 % 256) as u8,
-        (n / 256 / 256 / 256) as u8,
-        0,
-        0,
-        0,
-        0,
-        0,
-        0,
-        0,
-        0,
-        0,
-    ]
-}
-
-fn load_long(command: u8, dst: usize, n: u64) -> [u8; 16]
+// The command, dst, and n at 8 bytes: those that the value's kind has not are zero.
+fn load(command: u8, dst: usize, n: u64) -> [u8; 16]
     requires { dst < 65536 }
     ensures { result ≡ load_bytes command dst 8 n }
 {
-    [
-        command,
-        (dst % 256) as u8,
-        (dst / 256) as u8,
-        (n % 256) as u8,
-        (n / 256 % 256) as u8,
-        (n / 256 / 256 % 256) as u8,
-        (n / 256 / 256 / 256 % 256) as u8,
-        (n / 256 / 256 / 256 / 256 % 256) as u8,
-        (n / 256 / 256 / 256 / 256 / 256 % 256) as u8,
-        (n / 256 / 256 / 256 / 256 / 256 / 256 % 256) as u8,
-        (n / 256 / 256 / 256 / 256 / 256 / 256 / 256) as u8,
-        0,
-        0,
-        0,
-        0,
-        0,
-    ]
+    let [low, high] = (dst as u16).to_le_bytes();
+    let [a, b, c, d, e, f, g, h] = n.to_le_bytes();
+    [command, low, high, a, b, c, d, e, f, g, h, 0, 0, 0, 0, 0]
 }

@@ -6,11 +6,11 @@ use Rattle.leaves.specs.Signed.{wrap, mul_i32, checked_as}
 use Rattle.leaves.specs.Fixed.{fx_scale, mul_fx}
 use Rattle.leaves.specs.declared.constant.ConstVal.{ConstVal}
 use Rattle.leaves.specs.declared.constant.ConstVal.TheVariants.{I32, Fx}
-use Rattle.leaves.specs.declared.verdict.Verdict.{Verdict}
-use Rattle.leaves.specs.declared.verdict.Verdict.TheVariants.{Value}
 use Rattle.factor.specs.Factor.{gives, nearest_zero, factor_fx, factor_i32}
 use Rattle.factor.specs.Claim.{IsFactor, FactorFound, FactorsFoundFx, FactorsFoundI32}
 use Rattle.factor.proofs.Search.{answers_map, answers_none, Told, told-fx, told-i32, found, found-only}
+use Rattle.std.specs.Prelude.{Ok}
+use Rattle.leaves.specs.Verdict.{Verdict}
 
 either_fx : (a x : ℤ) → mul_fx a x ≡ mul_fx x a
 unfolding mul_fx
@@ -18,7 +18,7 @@ either_fx a x = ap (λ (z : ℤ). checked_as Fx (quot_z z fx_scale)) (*ℤ_comm 
 
 either_i32 : (a x : ℤ) → mul_i32 a x ≡ mul_i32 x a
 unfolding mul_i32
-either_i32 a x = ap (λ (z : ℤ). Value (I32 (wrap z))) (*ℤ_comm a x)
+either_i32 a x = ap (λ (z : ℤ). Ok (I32 (wrap z))) (*ℤ_comm a x)
 
 factor_found : (product : ℤ → ℤ → Verdict) (wanted : ConstVal) (factor : ℤ) → Told wanted → ((a x : ℤ) → product a x ≡ product x a)
     → FactorFound product wanted factor (nearest_zero (gives product wanted factor))

@@ -14,16 +14,14 @@ use mir.Val.{SFits, Fits, of_z, to_z}
 use mir.Facts.{to_z-of_z, of_z-to_z}
 use Rattle.leaves.specs.Signed.{in_i32, residue, wrap, mul_i32}
 use Rattle.leaves.specs.declared.constant.ConstVal.TheVariants.{I32}
-use Rattle.leaves.specs.declared.verdict.Verdict.TheVariants.{Value}
 use Rattle.leaves.proofs.Integers.{residue_mul, bits_below}
 use Rattle.leaves.proofs.Ranges.{sfits_in}
 use Rattle.factor.specs.Factor.{factor_i32}
 use Rattle.factor.specs.Claim.{IsFactor, Nearest, Answers}
 use Rattle.factor.specs.Closed.{found_if, inverse_of, nearest_to, factor_modulo, closed_i32}
-use Rattle.factor.specs.declared.Factor.{Factor}
-use Rattle.factor.specs.declared.Factor.TheVariants.{NoFactor}
 use Rattle.factor.proofs.Search.{by_test, answers_map, told-i32, found-only}
 use Rattle.factor.proofs.Residues.{halve_forth, halve_back, odd_never, inverse_is, whole, solves, solves_only, far, far_is}
+use Rattle.std.specs.Prelude.{Option, None, Ok}
 
 -- z is an i32 that is x modulo m; and one whose product with a is w modulo m
 abbrev Congruent : ℕ → ℕ → ℤ → Type 0
@@ -104,11 +102,11 @@ double : (k : ℕ) → 2 ^ suc k ≡ 2 ^ k * 2
 double k = omega arith
 
 -- of an even a and an odd w
-never_answers : (k w a : ℕ) → a % 2 ≡ 0 → w % 2 ≡ 1 → Answers (Solves a w (2 ^ suc k)) NoFactor
+never_answers : (k w a : ℕ) → a % 2 ≡ 0 → w % 2 ≡ 1 → Answers (Solves a w (2 ^ suc k)) None
 never_answers k w a p q z f = odd_never a w (2 ^ k) (of_z w32 z) p q (rw (double k) at f.1)
 
 -- of both even
-even_answers : (k w a : ℕ) → a % 2 ≡ 0 → w % 2 ≡ 0 → (r : Factor) → Answers (Solves (a / 2) (w / 2) (2 ^ k)) r → Answers (Solves a w (2 ^ suc k)) r
+even_answers : (k w a : ℕ) → a % 2 ≡ 0 → w % 2 ≡ 0 → (r : Option ℤ) → Answers (Solves (a / 2) (w / 2) (2 ^ k)) r → Answers (Solves a w (2 ^ suc k)) r
 even_answers k w a p q = answers_map (Solves (a / 2) (w / 2) (2 ^ k)) (Solves a w (2 ^ suc k))
     (λ z f. (f.0, rw (double k) (halve_back a w (2 ^ k) (of_z w32 z) (pow_pos k) p q f.1)))
     (λ z f. (f.0, halve_forth a w (2 ^ k) (of_z w32 z) (pow_pos k) p q (rw (double k) at f.1)))
@@ -124,15 +122,15 @@ modulo_answers (suc k) w a l = by_test (eqb (a % 2) 1)
 
 -- ---- of the leaf's product
 
-product_is : (w a x : ℤ) → mul_i32 a x ≡ Value (I32 w) → wrap (a *ℤ x) ≡ w
+product_is : (w a x : ℤ) → mul_i32 a x ≡ Ok (I32 w) → wrap (a *ℤ x) ≡ w
 unfolding mul_i32
 product_is w a x e = cc
 
-is_product : (w a x : ℤ) → wrap (a *ℤ x) ≡ w → mul_i32 a x ≡ Value (I32 w)
+is_product : (w a x : ℤ) → wrap (a *ℤ x) ≡ w → mul_i32 a x ≡ Ok (I32 w)
 unfolding mul_i32
-is_product w a x e = ap (λ (z : ℤ). Value (I32 z)) e
+is_product w a x e = ap (λ (z : ℤ). Ok (I32 z)) e
 
-product_bits : (w a : ℤ) → SFits w32 w → SFits w32 a → (r : Factor) → Answers (Solves (of_z w32 a) (of_z w32 w) 4294967296) r → Answers (IsFactor mul_i32 (I32 w) a) r
+product_bits : (w a : ℤ) → SFits w32 w → SFits w32 a → (r : Option ℤ) → Answers (Solves (of_z w32 a) (of_z w32 w) 4294967296) r → Answers (IsFactor mul_i32 (I32 w) a) r
 unfolding wrap
 product_bits w a h k = answers_map (Solves (of_z w32 a) (of_z w32 w) 4294967296) (IsFactor mul_i32 (I32 w) a)
     (λ x f. (f.0, is_product w a x (ap (λ (n : ℕ). to_z w32 n) (residue_mul a x k (sfits_in x f.0) ∙ f.1 ∙ small) ∙ to_z-of_z h)))

@@ -11,23 +11,22 @@ use Rattle.leaves.specs.Signed.{in_i32}
 use Rattle.leaves.specs.Verdicts.{value_in}
 use Rattle.leaves.specs.declared.constant.ConstVal.{ConstVal}
 use Rattle.leaves.specs.declared.constant.ConstVal.TheVariants.{Unknown, Quad as QuadV, Bool as BoolV, F64, I32, U32, Fx}
-use Rattle.leaves.specs.declared.verdict.Verdict.{Verdict}
-use Rattle.leaves.specs.declared.verdict.Verdict.TheVariants.{Value, LeftUnknown, RightUnknown, Unfit, DivisorZero, OutOfRange, NotComputed}
 use Rattle.leaves.proofs.Laws.{same_sound, same_self}
 use Rattle.leaves.proofs.Ranges.{abs_neg, abs32, sfits_in}
 use Rattle.factor.specs.Factor.{gives, first, nearest_zero}
 use Rattle.factor.specs.Claim.{IsFactor, Nearest, Answers}
-use Rattle.factor.specs.declared.Factor.{Factor}
-use Rattle.factor.specs.declared.Factor.TheVariants.{Found, NoFactor}
+use Rattle.std.specs.Prelude.{Option, Some, None, Ok, Err}
+use Rattle.leaves.specs.Verdict.{Verdict}
+use Rattle.leaves.specs.declared.verdict.Decline.TheVariants.{LeftUnknown, RightUnknown, Unfit, DivisorZero, OutOfRange, NotComputed}
 
 pub by_test : {C : Type 0} (b : Bool) → (b ≡ true → C) → (b ≡ false → C) → C
 by_test true f g = f refl
 by_test false f g = g refl
 
 -- the same numbers have the same answer
-pub answers_map : (Is Js : ℤ → Type 0) → ((x : ℤ) → Is x → Js x) → ((x : ℤ) → Js x → Is x) → (r : Factor) → Answers Is r → Answers Js r
-answers_map Is Js f g (Found x) n = record { is = f x n.is; nearest = λ y j. n.nearest y (g y j); positive = λ j. n.positive (g (pos (nat_abs x)) j) }
-answers_map Is Js f g NoFactor n = λ y j. n y (g y j)
+pub answers_map : (Is Js : ℤ → Type 0) → ((x : ℤ) → Is x → Js x) → ((x : ℤ) → Js x → Is x) → (r : Option ℤ) → Answers Is r → Answers Js r
+answers_map Is Js f g (Some x) n = record { is = f x n.is; nearest = λ y j. n.nearest y (g y j); positive = λ j. n.positive (g (pos (nat_abs x)) j) }
+answers_map Is Js f g None n = λ y j. n y (g y j)
 
 -- ---- it is the only one
 
@@ -49,14 +48,14 @@ module _ (Is : ℤ → Type 0) where
       go (inr (inl d)) = d ∙ ap pos e ∙ sym (q.positive (subst Is (d ∙ ap pos e) p.is))
       go (inr (inr d)) = p.positive (subst Is (d ∙ ap pos (sym e)) q.is) ∙ ap pos e ∙ sym d
 
-  pub answers_one : (r s : Factor) → Answers Is r → Answers Is s → r ≡ s
-  answers_one (Found x) (Found y) p q = ap Found (nearest_one x y p q)
-  answers_one (Found x) NoFactor p q = absurd (q x p.is)
-  answers_one NoFactor (Found y) p q = absurd (p y q.is)
-  answers_one NoFactor NoFactor p q = refl
+  pub answers_one : (r s : Option ℤ) → Answers Is r → Answers Is s → r ≡ s
+  answers_one (Some x) (Some y) p q = ap Some (nearest_one x y p q)
+  answers_one (Some x) None p q = absurd (q x p.is)
+  answers_one None (Some y) p q = absurd (p y q.is)
+  answers_one None None p q = refl
 
-  pub answers_none : (r : Factor) → Answers Is r → (r ≡ NoFactor → (x : ℤ) → Is x → ⊥) × (((x : ℤ) → Is x → ⊥) → r ≡ NoFactor)
-  answers_none r p = (λ e. subst (Answers Is) e p, λ n. answers_one r NoFactor p n)
+  pub answers_none : (r : Option ℤ) → Answers Is r → (r ≡ None → (x : ℤ) → Is x → ⊥) × (((x : ℤ) → Is x → ⊥) → r ≡ None)
+  answers_none r p = (λ e. subst (Answers Is) e p, λ n. answers_one r None p n)
 
 -- ---- and the search finds it
 
@@ -66,11 +65,11 @@ sizes (negsuc m) n e = inr (ap (λ (k : ℕ). neg_ℤ (pos k)) e)
 
 module _ (test : ℤ → Bool) where
   -- one size: its positive number, its negative one, or the sizes behind it
-  first_positive : (n k : ℕ) → test (pos n) ≡ true → first test n (suc k) ≡ Found (pos n)
+  first_positive : (n k : ℕ) → test (pos n) ≡ true → first test n (suc k) ≡ Some (pos n)
   unfolding first
   first_positive n k t = rw t
 
-  first-negative : (n k : ℕ) → test (pos n) ≡ false → test (neg_ℤ (pos n)) ≡ true → first test n (suc k) ≡ Found (neg_ℤ (pos n))
+  first-negative : (n k : ℕ) → test (pos n) ≡ false → test (neg_ℤ (pos n)) ≡ true → first test n (suc k) ≡ Some (neg_ℤ (pos n))
   unfolding first
   first-negative n k t u = rw (t, u)
 
@@ -111,14 +110,14 @@ nearest_answers test = answers_map (λ (x : ℤ). (in_i32 x && test x) ≡ true)
 
 -- ---- what the test of a product says
 
-value_in_lem : (v : Verdict) (c : ConstVal) → is_known c ≡ true → value_in v ≡ c → v ≡ Value c
-value_in_lem (Value d) c k e = ap Value e
-value_in_lem LeftUnknown c k e = absurd (true≢false (sym k ∙ ap is_known (sym e)))
-value_in_lem RightUnknown c k e = absurd (true≢false (sym k ∙ ap is_known (sym e)))
-value_in_lem Unfit c k e = absurd (true≢false (sym k ∙ ap is_known (sym e)))
-value_in_lem DivisorZero c k e = absurd (true≢false (sym k ∙ ap is_known (sym e)))
-value_in_lem OutOfRange c k e = absurd (true≢false (sym k ∙ ap is_known (sym e)))
-value_in_lem NotComputed c k e = absurd (true≢false (sym k ∙ ap is_known (sym e)))
+value_in_lem : (v : Verdict) (c : ConstVal) → is_known c ≡ true → value_in v ≡ c → v ≡ Ok c
+value_in_lem (Ok d) c k e = ap Ok e
+value_in_lem (Err LeftUnknown) c k e = absurd (true≢false (sym k ∙ ap is_known (sym e)))
+value_in_lem (Err RightUnknown) c k e = absurd (true≢false (sym k ∙ ap is_known (sym e)))
+value_in_lem (Err Unfit) c k e = absurd (true≢false (sym k ∙ ap is_known (sym e)))
+value_in_lem (Err DivisorZero) c k e = absurd (true≢false (sym k ∙ ap is_known (sym e)))
+value_in_lem (Err OutOfRange) c k e = absurd (true≢false (sym k ∙ ap is_known (sym e)))
+value_in_lem (Err NotComputed) c k e = absurd (true≢false (sym k ∙ ap is_known (sym e)))
 
 -- a known value that is equal to another value only if it is that one
 pub record Told (wanted : ConstVal) : Type 0 where
@@ -161,5 +160,5 @@ module _ (product : ℤ → ℤ → Verdict) {wanted : ConstVal} (factor : ℤ) 
       (nearest_zero (gives product wanted factor)) (nearest_answers (gives product wanted factor))
 
   -- and any right answer is the search's
-  pub found-only : (r : Factor) → Answers (IsFactor product wanted factor) r → r ≡ nearest_zero (gives product wanted factor)
+  pub found-only : (r : Option ℤ) → Answers (IsFactor product wanted factor) r → r ≡ nearest_zero (gives product wanted factor)
   found-only r p = answers_one (IsFactor product wanted factor) r (nearest_zero (gives product wanted factor)) p found

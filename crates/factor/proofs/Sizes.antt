@@ -1,44 +1,13 @@
--- A number's bits, its size and its sign.
+-- A number's size and its sign.
 use mathlib.Core.Path.{◌≡◌, refl, sym}
 use mathlib.Core.Bool.{true, false, true≢false, beq}
-use Prim.Native.Nat.{ℕ, zero, suc, ◌-◌, ◌≤◌, ◌<◌}
+use Prim.Native.Nat.{ℕ, zero, suc, ◌<◌}
 use native.Mathlib.Omega.{arith}
 use lib.IntN.{ℤ, pos, negsuc, neg_ℤ, nat_abs}
 use lib.Signed.{lt_z}
-use borrow.Author.Tests.{lt-ltb, le-ltb}
-use mir.Syntax.{w32}
-use mir.Val.{SFits, of_z, to_z}
+use borrow.Author.Tests.{le-ltb}
 use Rattle.leaves.specs.Signed.{is_zero}
-use Rattle.factor.specs.Closed.{found_if, along}
-use Rattle.factor.specs.declared.Factor.TheVariants.{Found, NoFactor}
-
--- ---- the size of a number, by its bits
-
-pub low_size : (a : ℤ) → SFits w32 a → of_z w32 a < 2147483648 → of_z w32 a ≡ nat_abs a
-low_size (pos n) h l = refl
-low_size (negsuc n) h l = let k : n < 2147483648 = h.sfits in absurd (omega arith)
-
-pub high_size : (a : ℤ) → SFits w32 a → 2147483648 ≤ of_z w32 a → 4294967296 - of_z w32 a ≡ nat_abs a
-high_size (pos n) h l = let k : n < 2147483648 = h.sfits in absurd (omega arith)
-high_size (negsuc n) h l = let k : n < 2147483648 = h.sfits in omega arith
-
--- ---- the number of a size
-
-pub above-found : (y : ℕ) → y ≤ 2147483647 → Found (to_z w32 y) ≡ found_if (pos y)
-above-found y l = rw (lt-ltb y 2147483648 (omega arith))
-
-pub above_nothing : (y : ℕ) → 2147483647 < y → NoFactor ≡ found_if (pos y)
-above_nothing y l = rw (le-ltb y 2147483648 (omega arith))
-
-pub below_found : (y : ℕ) → 0 < y → y ≤ 2147483648 → Found (to_z w32 (4294967296 - y)) ≡ found_if (neg_ℤ (pos y))
-below_found zero p l = absurd (omega arith)
-below_found (suc y) p l =
-    let e : 4294967296 - suc (4294967296 - suc y) ≡ y = omega arith in
-    rw (lt-ltb y 2147483648 (omega arith), le-ltb (4294967296 - suc y) 2147483648 (omega arith), e)
-
-pub below_nothing : (y : ℕ) → 2147483648 < y → NoFactor ≡ found_if (neg_ℤ (pos y))
-below_nothing zero l = absurd (omega arith)
-below_nothing (suc y) l = rw (le-ltb y 2147483648 (omega arith))
+use Rattle.factor.specs.Closed.{along}
 
 -- ---- zero
 

@@ -14,14 +14,14 @@ use borrow.Author.Tests.{ltb-true, ltb-false, lt-ltb, le-ltb, eqb-true}
 use Rattle.leaves.specs.Signed.{in_i32, is_zero, checked_as}
 use Rattle.leaves.specs.Fixed.{fx_scale, mul_fx}
 use Rattle.leaves.specs.declared.constant.ConstVal.TheVariants.{Fx}
-use Rattle.leaves.specs.declared.verdict.Verdict.TheVariants.{Value, OutOfRange}
 use Rattle.leaves.proofs.Ranges.{abs_neg, abs_mul, abs_quot}
 use Rattle.factor.specs.Factor.{factor_fx}
 use Rattle.factor.specs.Claim.{IsFactor, Nearest, Answers}
 use Rattle.factor.specs.Closed.{found_if, least_size, along, of_size, closed_fx}
-use Rattle.factor.specs.declared.Factor.TheVariants.{Found, NoFactor}
 use Rattle.factor.proofs.Search.{by_test, told-fx, found-only}
 use Rattle.factor.proofs.Sizes.{zero_not}
+use Rattle.std.specs.Prelude.{Some, None, Ok, Err}
+use Rattle.leaves.specs.declared.verdict.Decline.TheVariants.{OutOfRange}
 
 -- ---- the least size whose product with a is w
 
@@ -109,15 +109,15 @@ in_mono w a y z l e =
 
 -- ---- what the leaf says
 
-product_is : (w a x : ℤ) → mul_fx a x ≡ Value (Fx w) → quot_z (a *ℤ x) fx_scale ≡ w
+product_is : (w a x : ℤ) → mul_fx a x ≡ Ok (Fx w) → quot_z (a *ℤ x) fx_scale ≡ w
 unfolding mul_fx
 product_is w a x e = go (in_i32 (quot_z (a *ℤ x) fx_scale)) (quot_z (a *ℤ x) fx_scale) e
   where
-    go : (t : Bool) (z : ℤ) → cond t (Value (Fx z)) OutOfRange ≡ Value (Fx w) → z ≡ w
+    go : (t : Bool) (z : ℤ) → cond t (Ok (Fx z)) (Err OutOfRange) ≡ Ok (Fx w) → z ≡ w
     go true z e = cc
     go false z e = cc
 
-is_product : (w a x : ℤ) → in_i32 w ≡ true → quot_z (a *ℤ x) fx_scale ≡ w → mul_fx a x ≡ Value (Fx w)
+is_product : (w a x : ℤ) → in_i32 w ≡ true → quot_z (a *ℤ x) fx_scale ≡ w → mul_fx a x ≡ Ok (Fx w)
 unfolding mul_fx
 is_product w a x h e = ap (checked_as Fx) e ∙ rw h
 
@@ -144,7 +144,7 @@ module _ (w a : ℤ) (h : in_i32 w ≡ true) where
           let i : in_i32 (along w a (nat_abs x)) ≡ true = ap in_i32 (sym (is_along w a x q l)) ∙ f.0 in
           true≢false (sym (in_mono w a y (nat_abs x) m i) ∙ t)
 
-  no_size : ((z : ℕ) → nat_abs a * z / 1000 ≡ nat_abs w → ⊥) → Answers Is NoFactor
+  no_size : ((z : ℕ) → nat_abs a * z / 1000 ≡ nat_abs w → ⊥) → Answers Is None
   no_size n x f = n (nat_abs x) (size_of w a x (product_is w a x f.1))
 
   answers_size : 0 < nat_abs w → 0 < nat_abs a → Answers Is (of_size w a (least_size (nat_abs w) (nat_abs a)))
@@ -158,7 +158,7 @@ module _ (w a : ℤ) (h : in_i32 w ≡ true) where
       (λ t. rw t (found-size l y (size_some (nat_abs w) (nat_abs a) y (n % nat_abs a) e b l (ltb-false (nat_abs w) (y * nat_abs a / 1000) t))))
 
   -- by 0 there is none
-  by_zero_lem : 0 < nat_abs w → is_zero a ≡ true → Answers Is NoFactor
+  by_zero_lem : 0 < nat_abs w → is_zero a ≡ true → Answers Is None
   by_zero_lem l z = let e : nat_abs a ≡ 0 = eqb-true (nat_abs a) 0 z in no_size (λ x f. let g : 0 * x / 1000 ≡ nat_abs w = ap (λ (n : ℕ). n * x / 1000) (sym e) ∙ f in omega arith)
 
 -- and for 0 it is 0
@@ -170,7 +170,7 @@ zero_is : (b : ℤ) → is_zero b ≡ true → b ≡ pos 0
 zero_is (pos n) e = ap pos (eqb-true n 0 e)
 zero_is (negsuc n) e = absurd (omega (arith, eqb-true (suc n) 0 e))
 
-for_zero : (w a : ℤ) → is_zero w ≡ true → Answers (IsFactor mul_fx (Fx w) a) (Found (pos 0))
+for_zero : (w a : ℤ) → is_zero w ≡ true → Answers (IsFactor mul_fx (Fx w) a) (Some (pos 0))
 unfolding mul_fx
 for_zero w a z = rw (zero_is w z) (record {
   is = (refl, rw (zero_product a));
@@ -198,15 +198,15 @@ module _ (w a : ℤ) where
   abbrev y : ℕ
   y = least_size (nat_abs w) (nat_abs a)
 
-  pub closed_zero : is_zero w ≡ true → Found (pos 0) ≡ closed_fx w a
+  pub closed_zero : is_zero w ≡ true → Some (pos 0) ≡ closed_fx w a
   unfolding closed_fx
   closed_zero z = rw z
 
-  pub closed_by_zero : is_zero w ≡ false → is_zero a ≡ true → NoFactor ≡ closed_fx w a
+  pub closed_by_zero : is_zero w ≡ false → is_zero a ≡ true → None ≡ closed_fx w a
   unfolding closed_fx
   closed_by_zero z t = rw (z, t)
 
-  pub closed_past : is_zero w ≡ false → is_zero a ≡ false → nat_abs w < y * nat_abs a / 1000 → NoFactor ≡ closed_fx w a
+  pub closed_past : is_zero w ≡ false → is_zero a ≡ false → nat_abs w < y * nat_abs a / 1000 → None ≡ closed_fx w a
   unfolding closed_fx
   closed_past z t l = rw (z, t, lt-ltb (nat_abs w) (y * nat_abs a / 1000) l)
 

@@ -1,25 +1,22 @@
 -- The turns of `factor_modulo`: wanted value, factor and modulus, halved so many times, have the same answer.
 use mathlib.Core.Path.{◌≡◌, refl, ◌∙◌, ap}
-use mathlib.Core.Bool.{true, false, ◌&&◌}
-use Prim.Native.Nat.{ℕ, zero, suc, ◌-◌, ◌*◌, ◌/◌, ◌%◌, ◌^◌, ◌≤◌, ◌<◌}
+use Prim.Native.Nat.{ℕ, zero, suc, ◌*◌, ◌/◌, ◌%◌, ◌^◌, ◌≤◌, ◌<◌}
 use native.Mathlib.Omega.{arith}
-use lib.Dec.{leb, ltb}
-use lib.IntN.{pos, neg_ℤ}
+use lib.IntN.{pos}
 use lib.Pow.{pow_pos}
 use borrow.Author.Tests.{eq-eqb, ne_eqb}
-use Rattle.factor.specs.Closed.{found_if, inverse_of, nearest_to, factor_modulo}
-use Rattle.factor.specs.declared.Factor.TheVariants.{Found, NoFactor}
+use Rattle.factor.specs.Closed.{inverse_of, nearest_to, factor_modulo}
+use Rattle.std.specs.Prelude.{Some, None}
 
 pub record Halved (wanted factor w a m : ℕ) : Type 0 where
   pub bits : ℕ
   pub is : m ≡ 2 ^ bits
   pub low : 0 < m
   pub most : m ≤ 4294967296
-  pub small : a < 4294967296
   pub same : factor_modulo bits w a ≡ factor_modulo 32 wanted factor
 
-pub halved_none : (w a : ℕ) → a < 4294967296 → Halved w a w a 4294967296
-halved_none w a l = record { bits = 32; is = refl; low = omega arith; most = omega arith; small = l; same = refl }
+pub halved_none : (w a : ℕ) → Halved w a w a 4294967296
+halved_none w a = record { bits = 32; is = refl; low = omega arith; most = omega arith; same = refl }
 
 module _ {wanted factor w a m : ℕ} (h : Halved wanted factor w a m) where
   pub odd_turn : 1 < m → a % 2 ≡ 1 → nearest_to m (inverse_of a * (w % m) % m) ≡ factor_modulo 32 wanted factor
@@ -30,11 +27,11 @@ module _ {wanted factor w a m : ℕ} (h : Halved wanted factor w a m) where
       go zero e s = absurd (omega (arith, e))
       go (suc k) e s = ap (λ (n : ℕ). nearest_to n (inverse_of a * (w % n) % n)) e ∙ (rw (eq-eqb (a % 2) 1 o) at s)
 
-  pub never_turn : 1 < m → (a % 2 ≡ 1 → ⊥) → w % 2 ≡ 1 → NoFactor ≡ factor_modulo 32 wanted factor
+  pub never_turn : 1 < m → (a % 2 ≡ 1 → ⊥) → w % 2 ≡ 1 → None ≡ factor_modulo 32 wanted factor
   unfolding factor_modulo
   never_turn l n o = go h.bits h.is h.same
     where
-      go : (k : ℕ) → m ≡ 2 ^ k → factor_modulo k w a ≡ factor_modulo 32 wanted factor → NoFactor ≡ factor_modulo 32 wanted factor
+      go : (k : ℕ) → m ≡ 2 ^ k → factor_modulo k w a ≡ factor_modulo 32 wanted factor → None ≡ factor_modulo 32 wanted factor
       go zero e s = absurd (omega (arith, e))
       go (suc k) e s = rw (ne_eqb (a % 2) 1 n, eq-eqb (w % 2) 1 o) at s
 
@@ -51,22 +48,13 @@ module _ {wanted factor w a m : ℕ} (h : Halved wanted factor w a m) where
             is = d;
             low = omega arith;
             most = omega (arith, h.most);
-            small = omega (arith, h.small);
             same = rw (ne_eqb (a % 2) 1 n, ne_eqb (w % 2) 1 o) at s;
           }
 
-  pub last_turn : m ≤ 1 → Found (pos 0) ≡ factor_modulo 32 wanted factor
+  pub last_turn : m ≤ 1 → Some (pos 0) ≡ factor_modulo 32 wanted factor
   unfolding factor_modulo
   last_turn l = go h.bits h.is h.same
     where
-      go : (k : ℕ) → m ≡ 2 ^ k → factor_modulo k w a ≡ factor_modulo 32 wanted factor → Found (pos 0) ≡ factor_modulo 32 wanted factor
+      go : (k : ℕ) → m ≡ 2 ^ k → factor_modulo k w a ≡ factor_modulo 32 wanted factor → Some (pos 0) ≡ factor_modulo 32 wanted factor
       go zero e s = s
       go (suc k) e s = let p : 0 < 2 ^ k = pow_pos k in absurd (omega (arith, e))
-
--- ---- the number nearest zero, by the code's test
-
-pub near_above : (m x : ℕ) → (leb (x * 2) m && ltb x 2147483648) ≡ true → found_if (pos x) ≡ nearest_to m x
-near_above m x t = rw t
-
-pub near_below : (m x : ℕ) → (leb (x * 2) m && ltb x 2147483648) ≡ false → found_if (neg_ℤ (pos (m - x))) ≡ nearest_to m x
-near_below m x t = rw t

@@ -8,10 +8,10 @@ use Rattle.leaves.proofs.Ranges.{sfits_in}
 use Rattle.factor.specs.Cases.{FactorCase, fx_cases, i32_cases}
 use Rattle.factor.specs.Closed.{closed_fx, closed_i32, factor_modulo, inverse_of}
 use Rattle.factor.specs.Factor.{factor_fx, factor_i32}
-use Rattle.factor.specs.declared.Factor.{Factor}
 use Rattle.factor.proofs.Search.{and_true}
 use Rattle.factor.proofs.Halvings.{closed_i32_lem}
 use Rattle.factor.proofs.Thousandths.{closed_fx_lem}
+use Rattle.std.specs.Prelude.{Option}
 
 abbrev in_range : FactorCase → Bool
 in_range c = in_i32 c.wanted && in_i32 c.factor
@@ -20,13 +20,13 @@ abbrev all_in_range : List FactorCase → Bool
 all_in_range [] = true
 all_in_range (c ∷ cs) = in_range c && all_in_range cs
 
-module _ (f g : ℤ → ℤ → Factor) (same : (w a : ℤ) → in_i32 w ≡ true → in_i32 a ≡ true → f w a ≡ g w a) where
+module _ (f g : ℤ → ℤ → Option ℤ) (same : (w a : ℤ) → in_i32 w ≡ true → in_i32 a ≡ true → f w a ≡ g w a) where
   by_closed : (cs : List FactorCase) → all_in_range cs ≡ true → map (λ (c : FactorCase). g c.wanted c.factor) cs ≡ map (λ (c : FactorCase). f c.wanted c.factor) cs
   by_closed [] e = refl
   by_closed (c ∷ cs) e =
       let (p, q) = and_true (in_range c) (all_in_range cs) e in
       let (u, v) = and_true (in_i32 c.wanted) (in_i32 c.factor) p in
-      ap₂ (λ (x : Factor) (xs : List Factor). x ∷ xs) (sym (same c.wanted c.factor u v)) (by_closed cs q)
+      ap₂ (λ (x : Option ℤ) (xs : List (Option ℤ)). x ∷ xs) (sym (same c.wanted c.factor u v)) (by_closed cs q)
 
 pub fx-cases_hold : map (λ (c : FactorCase). factor_fx c.wanted c.factor) fx_cases ≡ map (λ (c : FactorCase). c.answer) fx_cases
 unfolding fx_cases closed_fx

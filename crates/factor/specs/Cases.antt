@@ -1,14 +1,12 @@
 -- Worked: wanted values and factors with the other factor, written out by hand from document 02 (W14). The search cannot be computed here over all
 -- sizes of the i32: of fewer sizes it is, and the theorems that hold the two long tables against the definitions go by the closed forms, which are
 -- proved equal to them (factor/proofs/Worked.antt).
-use Rattle.std.specs.Prelude.{ℕ, ◌≡◌, refl, Bool, List, [], ◌∷◌, map, ℤ, pos, negsuc}
+use Rattle.std.specs.Prelude.{ℕ, ◌≡◌, refl, Bool, List, [], ◌∷◌, map, ℤ, pos, negsuc, Option, Some, None}
 use Rattle.leaves.specs.Constants.{const_eq}
 use Rattle.leaves.specs.Fixed.{mul_fx}
 use Rattle.leaves.specs.Signed.{residue, wrap, mul_i32}
 use Rattle.leaves.specs.declared.constant.ConstVal.TheVariants.{I32, Fx}
 use Rattle.factor.specs.Factor.{gives, first}
-use Rattle.factor.specs.declared.Factor.{Factor}
-use Rattle.factor.specs.declared.Factor.TheVariants.{Found, NoFactor}
 
 -- negsuc n is -(n + 1); the greatest and the least i32
 abbrev most : ℤ
@@ -23,27 +21,27 @@ pub record SearchCase : Type 0 where
   pub test : ℤ → Bool
   pub size : ℕ
   pub more : ℕ
-  pub answer : Factor
+  pub answer : Option ℤ
 
-abbrev pub search : (ℤ → Bool) → ℕ → ℕ → Factor → SearchCase
+abbrev pub search : (ℤ → Bool) → ℕ → ℕ → Option ℤ → SearchCase
 search test size more answer = record { test = test; size = size; more = more; answer = answer }
 
 abbrev pub searches : List SearchCase
 searches =
     -- "nearest zero": 0 first, then by size, and no farther than asked
-    search (gives mul_fx (Fx (pos 0)) (pos 5)) 0 9 (Found (pos 0))
+    search (gives mul_fx (Fx (pos 0)) (pos 5)) 0 9 (Some (pos 0))
     -- 400 * 3 / 1000 and 400 * 4 / 1000 are 1, 400 * 2 / 1000 is 0 and 400 * 5 / 1000 is 2
-    ∷ search (gives mul_fx (Fx (pos 1)) (pos 400)) 0 9 (Found (pos 3))
-    ∷ search (gives mul_fx (Fx (pos 1)) (pos 400)) 0 3 NoFactor
-    ∷ search (gives mul_fx (Fx (pos 1)) (pos 400)) 4 1 (Found (pos 4))
-    ∷ search (gives mul_fx (Fx (pos 1)) (pos 400)) 5 5 NoFactor
-    ∷ search (gives mul_i32 (I32 (negsuc 5)) (pos 3)) 0 9 (Found (negsuc 1))
+    ∷ search (gives mul_fx (Fx (pos 1)) (pos 400)) 0 9 (Some (pos 3))
+    ∷ search (gives mul_fx (Fx (pos 1)) (pos 400)) 0 3 None
+    ∷ search (gives mul_fx (Fx (pos 1)) (pos 400)) 4 1 (Some (pos 4))
+    ∷ search (gives mul_fx (Fx (pos 1)) (pos 400)) 5 5 None
+    ∷ search (gives mul_i32 (I32 (negsuc 5)) (pos 3)) 0 9 (Some (negsuc 1))
     -- "the positive one on a tie": of 2^30, 2 and -2 both give the least number
-    ∷ search (gives mul_i32 (I32 least) (pos 1073741824)) 0 9 (Found (pos 2))
-    ∷ search (gives mul_i32 (I32 least) (pos 1073741824)) 3 9 (Found (pos 6))
-    ∷ search (gives mul_i32 (I32 least) (pos 1073741824)) 3 3 NoFactor
+    ∷ search (gives mul_i32 (I32 least) (pos 1073741824)) 0 9 (Some (pos 2))
+    ∷ search (gives mul_i32 (I32 least) (pos 1073741824)) 3 9 (Some (pos 6))
+    ∷ search (gives mul_i32 (I32 least) (pos 1073741824)) 3 3 None
     -- a product that the leaf declines gives nothing
-    ∷ search (gives mul_fx (Fx (pos 0)) least) 1001 3 NoFactor
+    ∷ search (gives mul_fx (Fx (pos 0)) least) 1001 3 None
     ∷ []
 
 pub searches_hold : map (λ (c : SearchCase). first c.test c.size c.more) searches ≡ map (λ (c : SearchCase). c.answer) searches
@@ -55,16 +53,16 @@ searches_hold = refl
 pub record FactorCase : Type 0 where
   pub wanted : ℤ
   pub factor : ℤ
-  pub answer : Factor
+  pub answer : Option ℤ
 
-abbrev pub case : ℤ → ℤ → Factor → FactorCase
+abbrev pub case : ℤ → ℤ → Option ℤ → FactorCase
 case wanted factor answer = record { wanted = wanted; factor = factor; answer = answer }
 
 abbrev pub found : ℤ → ℤ → ℤ → FactorCase
-found wanted factor x = case wanted factor (Found x)
+found wanted factor x = case wanted factor (Some x)
 
 abbrev pub none : ℤ → ℤ → FactorCase
-none wanted factor = case wanted factor NoFactor
+none wanted factor = case wanted factor None
 
 unfoldable pub fx_cases : List FactorCase
 fx_cases =

@@ -2,9 +2,6 @@
 ghost use Rattle.std.specs.Prelude.{◌≡◌, ◌*◌, ◌/◌, ◌≤◌, ◌<◌, pos, neg_ℤ, nat_abs};
 ghost use Rattle.factor.specs.Closed.{found_if, least_size};
 
-use crate::Factor;
-use leaves::signed::{bits_of, of_bits};
-
 // How many i32 there are, and the size of the least one, which no other has.
 pub const COUNT: u64 = 4294967296;
 
@@ -16,11 +13,7 @@ const SCALE: u64 = 1000;
 pub fn magnitude(a: i32) -> u64
     ensures { result ≡ nat_abs a }
 {
-    let bits = bits_of(a) as u64;
-    if bits < LEAST {
-        return bits;
-    }
-    COUNT - bits
+    u64::from(a.unsigned_abs())
 }
 
 // The least size whose product with a reaches w thousands.
@@ -28,7 +21,7 @@ pub fn least_size(w: u64, a: u64) -> u64
     requires { (w ≤ 2147483648) × (0 < a) × (a ≤ 2147483648) }
     ensures { result ≡ least_size w a }
 {
-    (w * SCALE + a - 1) / a
+    (w * SCALE).div_ceil(a)
 }
 
 // MulFx of two sizes: their product in thousandths, truncated.
@@ -40,22 +33,16 @@ pub fn product(y: u64, a: u64) -> u64
 }
 
 // The factor y, where it is an i32.
-pub fn above(y: u64) -> Factor
+pub fn above(y: u64) -> Option<i32>
     ensures { result ≡ found_if (pos y) }
 {
-    if LEAST <= y {
-        return Factor::NoFactor;
-    }
-    Factor::Found(of_bits(y as u32))
+    i32::try_from(y).ok()
 }
 
 // The factor -y, where it is an i32.
-pub fn below(y: u64) -> Factor
-    requires { 0 < y }
+pub fn below(y: u64) -> Option<i32>
     ensures { result ≡ found_if (neg_ℤ (pos y)) }
 {
-    if LEAST < y {
-        return Factor::NoFactor;
-    }
-    Factor::Found(of_bits((COUNT - y) as u32))
+    let y = u32::try_from(y).ok()?;
+    0i32.checked_sub_unsigned(y)
 }

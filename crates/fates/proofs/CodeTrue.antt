@@ -1,14 +1,13 @@
 -- What the fate of an instruction cell means.
+use Rattle.std.specs.Prelude.{Option, None, Some}
 use mathlib.Core.Path.{◌≡◌, refl, sym, ◌∙◌, ap}
 use mathlib.Core.Bool.{Bool, true, false, not, true≢false}
-use mathlib.Core.Option.{Option, none, some}
 use mathlib.Core.List.{List, [], ◌∷◌, ◌++◌, map}
 use Prim.Native.Nat.{ℕ, zero, suc, ◌+◌, ◌<◌}
 use native.Mathlib.Omega.{arith}
 use lib.Dec.{eqb}
 use lib.ListN.{length, length-append}
 use Rattle.leaves.specs.Verdicts.{value_in}
-use Rattle.leaves.specs.declared.verdict.Verdict.{Verdict}
 use Rattle.cells.specs.Cells.{Cell}
 use Rattle.cells.specs.Ins.{Const, quad, bool, f64, i32, u32, fx, Ins, label_of, alike}
 use Rattle.cells.proofs.Facts.{by_test, clash, and_true, alike_true, alike-none, eqb_true, eqb_false}
@@ -30,6 +29,7 @@ use Rattle.fates.proofs.Lists.{Above, Increasing, increasing_up, among_up}
 use Rattle.fates.proofs.Standing.{among_there, none_between, standing}
 use Rattle.fates.proofs.LeftCells.{increasing₁, increasing₂, increasing₃, increasing₄, cell_in, code_left, length-left, folded_to_lem, by_verdict, loaded, fate_behind, cell-behind}
 use Rattle.fates.proofs.SweptAway.{Taken, taken, TakenBehind, taken_behind}
+use Rattle.leaves.specs.Verdict.{Verdict}
 
 -- the nearest number below k that passes a test
 nearest : (test : ℕ → Bool) (k j : ℕ) → j < k → test j ≡ true → ((i : ℕ) → j < i → i < k → test i ≡ false) → nearest_below test k ≡ j
@@ -38,9 +38,9 @@ nearest test (suc m) j h y n = by_test (eqb m j)
     (λ e. let s : m ≡ j = eqb_true m j e in rw (s, y))
     (λ e. let l : j < m = omega (arith, eqb_false m j e) in rw (n m l (omega arith)) (nearest test m j l y (λ i u v. n i u (omega arith))))
 
-no_name : (o : Option ℕ) → not (is_there o) ≡ true → o ≡ none
-no_name none e = refl
-no_name (some l) e = absurd (true≢false (sym e))
+no_name : (o : Option ℕ) → not (is_there o) ≡ true → o ≡ None
+no_name None e = refl
+no_name (Some l) e = absurd (true≢false (sym e))
 
 module _ (see : ℕ → Ins) (n : ℕ) where
   -- ---- sweep one
@@ -48,7 +48,7 @@ module _ (see : ℕ → Ins) (n : ℕ) where
   repeated_label : (k : ℕ) → k < n → among k (left₁ see n) ≡ false → RepeatedLabelTrue see n k
   unfolding left₁
   repeated_label k h g =
-      let t = taken_behind (same_label see) (λ (j : ℕ). label_of (see j)) none (λ j q. refl) (up_from 0 n) k (increasing_up 0 n) (among_up k 0 n (omega arith) (omega arith)) g in
+      let t = taken_behind (same_label see) (λ (j : ℕ). label_of (see j)) None (λ j q. refl) (up_from 0 n) k (increasing_up 0 n) (among_up k 0 n (omega arith) (omega arith)) g in
       let (l, u, v) = alike_true (label_of (see t.last)) (label_of (see k)) t.by in
       record { gone = g; before = t.before; kept = t.last; behind = t.later; parts = t.parts; earlier = t.earlier; last = t.above; name = l; of_kept = u; of_this = v }
 
@@ -63,7 +63,7 @@ module _ (see : ℕ → Ins) (n : ℕ) where
     cut : (terminal (see unreached.last) ≡ true) × (not (is_there (label_of (see k))) ≡ true)
     cut = and_true (terminal (see unreached.last)) (not (is_there (label_of (see k)))) unreached.by
 
-    no_label : label_of (see k) ≡ none
+    no_label : label_of (see k) ≡ None
     no_label = no_name (label_of (see k)) cut.1
 
     -- it leaves none between the two
@@ -107,7 +107,7 @@ module _ (see : ℕ → Ins) (n : ℕ) where
       t = taken _ _ tt p k i m e
 
       go : (b : List ℕ) → p ≡ t.place.ahead ++ k ∷ b → same_next see f g tt k b ≡ true → ByNextTrue see n k f g p (sweep see f g p)
-      go [] parts y = clash (alike (f (see k)) none) y (alike-none (f (see k)))
+      go [] parts y = clash (alike (f (see k)) None) y (alike-none (f (see k)))
       go (j ∷ b) parts y =
           let (l, u, v) = alike_true (f (see k)) (g (see j)) y in
           record { left = m; gone = e; before = t.place.ahead; next = j; behind = b; parts = parts; number = l; of_this = u; of_next = v }
@@ -119,7 +119,7 @@ module _ (first : ℕ) (cs : List Cell) (k : ℕ) where
   abbrev Says : Fate → Option Const → Type 0
   Says x o = LeftTrue cs k x (loaded (cell_in cs k) (dst_of (see_in cs k)) o) → CodeTrue first cs k x
 
-  of_load : (v : Const) → Says (load_of v) (some v)
+  of_load : (v : Const) → Says (load_of v) (Some v)
   of_load (quad q) l = record { constant = quad q; is = refl; left = l }
   of_load (bool b) l = record { constant = bool b; is = refl; left = l }
   of_load (f64 m) l = record { constant = f64 m; is = refl; left = l }

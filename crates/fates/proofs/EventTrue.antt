@@ -13,8 +13,6 @@ use Rattle.cells.specs.View.{view}
 use Rattle.cells.proofs.Facts.{by_test, clash, not_false}
 use Rattle.cells.proofs.Lists.{all_at}
 use Rattle.sites.specs.Sites.{event_site}
-use Rattle.sites.specs.declared.Site.{Site}
-use Rattle.sites.specs.declared.Site.TheVariants.{Absent, At}
 use Rattle.sites.specs.declared.Which.{Which}
 use Rattle.sites.specs.declared.Which.TheVariants.{Activation, Write}
 use Rattle.cleanup.specs.Sweeps.{removed}
@@ -23,6 +21,7 @@ use Rattle.fates.specs.Claim.{OneOf, GoneTrue, EventFatesTrue}
 use Rattle.fates.specs.declared.Fate.{Fate}
 use Rattle.fates.specs.declared.Fate.TheVariants.{EventGone, Kept}
 use Rattle.fates.specs.declared.Reason.TheVariants.{Nothing}
+use Rattle.std.specs.Prelude.{Option, Some, None}
 
 -- ---- the cells that pass a test
 
@@ -48,9 +47,9 @@ module _ (f : Cell → Bool) where
 -- ---- events
 
 -- by a site of the sort w
-gone_by : (w : Which) (cs : List Cell) (e : Cell) (s : Site) → event_site w e ≡ s → on_gone w (removed view cs) s ≡ true → GoneTrue cs e
-gone_by w cs e Absent is y = absurd (true≢false (sym y))
-gone_by w cs e (At x) is y = record { sort = w; site = x; of_event = is; of_command = y }
+gone_by : (w : Which) (cs : List Cell) (e : Cell) (s : Option ℕ) → event_site w e ≡ s → on_gone w (removed view cs) s ≡ true → GoneTrue cs e
+gone_by w cs e None is y = absurd (true≢false (sym y))
+gone_by w cs e (Some x) is y = record { sort = w; site = x; of_event = is; of_command = y }
 
 by-site : (cs : List Cell) (e : Cell) → stays (removed view cs) e ≡ false → GoneTrue cs e
 by-site cs e n = by_test (goes Activation (removed view cs) e)

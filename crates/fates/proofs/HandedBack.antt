@@ -1,7 +1,7 @@
 -- What is handed back along a list of positions, and what is counted: for the cells that are left it is what the fold makes of them.
+use Rattle.std.specs.Prelude.{Option, Some}
 use mathlib.Core.Path.{◌≡◌, refl, ◌∙◌, ap, ap₂}
 use mathlib.Core.Bool.{true, false}
-use mathlib.Core.Option.{Option, some}
 use mathlib.Core.List.{List, [], ◌∷◌, ◌++◌, map}
 use Prim.Native.Nat.{ℕ, ◌+◌, ◌<◌}
 use native.Mathlib.Omega.{arith}
@@ -31,7 +31,7 @@ use Rattle.fates.proofs.LeftCells.{folded_to_lem, by_verdict, loaded}
 abbrev Gives : Cell → ℕ → Fate → Option Const → Type 0
 Gives c d x k = (back_of x c ≡ loaded c d k ∷ []) × (count_of x ≡ one_if k)
 
-of_load : (c : Cell) (v : Const) → Gives c (half c 1) (load_of v) (some v)
+of_load : (c : Cell) (v : Const) → Gives c (half c 1) (load_of v) (Some v)
 unfolding load_cell
 of_load c (quad q) = (refl, refl)
 of_load c (bool b) = (refl, refl)

@@ -1,7 +1,6 @@
 -- The cells that all four sweeps leave, by their positions: they are cleanup's cells, and the fold goes along them.
 use mathlib.Core.Path.{◌≡◌, refl, sym, ◌∙◌, ap}
 use mathlib.Core.Bool.{false}
-use mathlib.Core.Option.{Option, none, some}
 use mathlib.Core.List.{List, [], ◌∷◌, ◌++◌, map}
 use Prim.Native.Nat.{ℕ, zero, suc, ◌+◌, ◌<◌}
 use native.Mathlib.Numerals.{add-one}
@@ -9,8 +8,6 @@ use native.Mathlib.Omega.{arith}
 use lib.ListN.{length, get_or, drop, drop_of_length-le, length-map}
 use lib.Seq.{drop-cons}
 use Rattle.leaves.specs.Verdicts.{value_in}
-use Rattle.leaves.specs.declared.verdict.Verdict.{Verdict}
-use Rattle.leaves.specs.declared.verdict.Verdict.TheVariants.{Value, LeftUnknown as LeftIs, RightUnknown as RightIs, Unfit as UnfitIs, DivisorZero as ZeroIs, OutOfRange as RangeIs, NotComputed}
 use Rattle.cells.specs.Cells.{Cell}
 use Rattle.cells.specs.Ins.{Const, Ins, load, comp, label, jmp, jmp_if, ret, act, label_of}
 use Rattle.cells.specs.View.{view, load_cell}
@@ -33,13 +30,16 @@ use Rattle.fates.specs.declared.Reason.{Reason}
 use Rattle.fates.specs.declared.Reason.TheVariants.{Nothing, LeftUnknown, RightUnknown, Unfit, DivisorZero, OutOfRange}
 use Rattle.fates.proofs.Lists.{Increasing, increasing_up, sub_increasing}
 use Rattle.fates.proofs.Standing.{below_differs}
+use Rattle.std.specs.Prelude.{Ok, Err, Option, None, Some}
+use Rattle.leaves.specs.Verdict.{Verdict}
+use Rattle.leaves.specs.declared.verdict.Decline.TheVariants.{LeftUnknown as LeftIs, RightUnknown as RightIs, Unfit as UnfitIs, DivisorZero as ZeroIs, OutOfRange as RangeIs, NotComputed}
 
 -- ---- what each sweep leaves
 
 module _ (see : ℕ → Ins) (n : ℕ) where
   sub₁ : Sub (left₁ see n) (up_from 0 n)
   unfolding left₁
-  sub₁ = sub_dedupe see none (up_from 0 n)
+  sub₁ = sub_dedupe see None (up_from 0 n)
 
   pub sub₂ : Sub (left₂ see n) (left₁ see n)
   unfolding left₂
@@ -104,19 +104,19 @@ folded_to_lem t (ret s) = refl
 folded_to_lem t (act c d b) = refl
 
 -- the fate by a verdict, beside the constant in it: kept without one, or the load of it
-module _ (P : Fate → Option Const → Type 0) (kept : (r : Reason) → P (Kept r) none) (folded : (v : Const) → P (load_of v) (some v)) where
+module _ (P : Fate → Option Const → Type 0) (kept : (r : Reason) → P (Kept r) None) (folded : (v : Const) → P (load_of v) (Some v)) where
   by_constant : (k : Option Const) → P (folded_as k) k
-  by_constant none = kept Nothing
-  by_constant (some v) = folded v
+  by_constant None = kept Nothing
+  by_constant (Some v) = folded v
 
   pub by_verdict : (v : Verdict) → P (judged v) (written_of (value_in v))
-  by_verdict (Value v) = by_constant (written_of v)
-  by_verdict LeftIs = kept LeftUnknown
-  by_verdict RightIs = kept RightUnknown
-  by_verdict UnfitIs = kept Unfit
-  by_verdict ZeroIs = kept DivisorZero
-  by_verdict RangeIs = kept OutOfRange
-  by_verdict NotComputed = kept Nothing
+  by_verdict (Ok v) = by_constant (written_of v)
+  by_verdict (Err LeftIs) = kept LeftUnknown
+  by_verdict (Err RightIs) = kept RightUnknown
+  by_verdict (Err UnfitIs) = kept Unfit
+  by_verdict (Err ZeroIs) = kept DivisorZero
+  by_verdict (Err RangeIs) = kept OutOfRange
+  by_verdict (Err NotComputed) = kept Nothing
 
 -- the cell c, or the load into d that takes its place
 abbrev pub loaded : Cell → ℕ → Option Const → Cell

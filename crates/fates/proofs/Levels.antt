@@ -1,9 +1,8 @@
--- How far a cell comes through the sweeps, and what its two numbers are by that.
+-- How far a cell comes through the sweeps, and what its fate is by that.
 use mathlib.Core.Path.{◌≡◌, refl}
 use mathlib.Core.Bool.{Bool, true, false, cond, not}
 use mathlib.Core.List.{List}
 use Prim.Native.Nat.{ℕ}
-use lib.Dec.{ltb}
 use Rattle.cells.specs.Ins.{label_of}
 use Rattle.cells.proofs.Facts.{clash}
 use Rattle.cells.proofs.Lists.{Sub}
@@ -11,9 +10,10 @@ use Rattle.cleanup.specs.Marks.{jump_of, removable_load}
 use Rattle.cleanup.specs.Positions.{see_at, every, left₁, left₂, left₃, left₄}
 use Rattle.cleanup.proofs.Sweeping.{sub_dedupe, sub_reach, sub_sweep}
 use Rattle.fates.specs.Fates.{among}
-use Rattle.fates.specs.Steps.{kind_of, value_by, named_of}
+use Rattle.fates.specs.Steps.{reached, named_of}
 use Rattle.fates.specs.declared.Fate.{Fate}
-use Rattle.fates.specs.declared.Fate.TheVariants.{RepeatedLabel, Unreachable, JumpToNext, LoadOverwritten}
+use Rattle.fates.specs.declared.Fate.TheVariants.{RepeatedLabel, Unreachable, JumpToNext, LoadOverwritten, Kept}
+use Rattle.fates.specs.declared.Reason.TheVariants.{Nothing}
 use Rattle.fates.proofs.Lists.{among_sub}
 
 -- whether each of the four sweeps leaves it: once it is gone, no later one has it
@@ -57,26 +57,19 @@ module _ (s : List ℕ) where
 abbrev pub by_level : Bool → Bool → Bool → Bool → ℕ → Fate → Fate
 by_level b₁ b₂ b₃ b₄ u f = cond (not b₁) RepeatedLabel (cond (not b₂) (Unreachable u) (cond (not b₃) JumpToNext (cond (not b₄) LoadOverwritten f)))
 
--- the kind that the sweeps give it
-abbrev pub swept_kind : Bool → Bool → Bool → Bool → ℕ
-swept_kind b₁ b₂ b₃ b₄ = cond b₄ 7 (cond b₃ 4 (cond b₂ 3 (cond b₁ 2 1)))
+-- the fate that the sweeps give it
+abbrev pub swept_fate : Bool → Bool → Bool → Bool → Fate
+swept_fate b₁ b₂ b₃ b₄ = cond b₄ (Kept Nothing) (cond b₃ LoadOverwritten (cond b₂ JumpToNext (cond b₁ (Unreachable 0) RepeatedLabel)))
 
-pub kind_by : {b₁ b₂ b₃ b₄ : Bool} (u : ℕ) (f : Fate) → Level b₁ b₂ b₃ b₄ → cond b₄ (kind_of f) (swept_kind b₁ b₂ b₃ b₄) ≡ kind_of (by_level b₁ b₂ b₃ b₄ u f)
-kind_by u f gone₁ = refl
-kind_by u f gone₂ = refl
-kind_by u f gone₃ = refl
-kind_by u f gone₄ = refl
-kind_by u f left = refl
+pub fate-by : {b₁ b₂ b₃ b₄ : Bool} (u : ℕ) (f : Fate) → Level b₁ b₂ b₃ b₄ → cond b₄ f (named_of (swept_fate b₁ b₂ b₃ b₄) u) ≡ by_level b₁ b₂ b₃ b₄ u f
+fate-by u f gone₁ = refl
+fate-by u f gone₂ = refl
+fate-by u f gone₃ = refl
+fate-by u f gone₄ = refl
+fate-by u f left = refl
 
-pub value-by : {b₁ b₂ b₃ b₄ : Bool} (u : ℕ) (f : Fate) → Level b₁ b₂ b₃ b₄ → cond b₄ (value_by f) (named_of (swept_kind b₁ b₂ b₃ b₄) u) ≡ value_by (by_level b₁ b₂ b₃ b₄ u f)
-value-by u f gone₁ = refl
-value-by u f gone₂ = refl
-value-by u f gone₃ = refl
-value-by u f gone₄ = refl
-value-by u f left = refl
-
--- above 2 is what sweep two leaves
-pub reached_by : {b₁ b₂ b₃ b₄ : Bool} → Level b₁ b₂ b₃ b₄ → ltb 2 (swept_kind b₁ b₂ b₃ b₄) ≡ b₂
+-- by it, whether sweep two leaves the cell
+pub reached_by : {b₁ b₂ b₃ b₄ : Bool} → Level b₁ b₂ b₃ b₄ → reached (swept_fate b₁ b₂ b₃ b₄) ≡ b₂
 reached_by gone₁ = refl
 reached_by gone₂ = refl
 reached_by gone₃ = refl

@@ -1,6 +1,6 @@
 pub mod Lists
 pub mod Levels
-pub mod Read
+pub mod Filling
 pub mod Marking
 pub mod Judging
 pub mod Sparing

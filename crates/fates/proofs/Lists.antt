@@ -1,8 +1,9 @@
--- Positions in a list: which are among it, increasing lists, and numbers written at places of another list.
-use mathlib.Core.Path.{◌≡◌, refl, sym, ◌∙◌}
+-- Positions in a list: which are among it, increasing lists, and fates written at places of another list.
+use mathlib.Core.Path.{◌≡◌, refl, sym, ◌∙◌, ap}
 use mathlib.Core.Bool.{Bool, true, false, cond}
-use mathlib.Core.List.{List, [], ◌∷◌}
+use mathlib.Core.List.{List, [], ◌∷◌, map}
 use Prim.Native.Nat.{ℕ, zero, suc, ◌+◌, ◌≤◌, ◌<◌}
+use native.Mathlib.Nat.{le_of_suc-le-suc, not-suc-le-zero}
 use native.Mathlib.Omega.{arith}
 use lib.Dec.{eqb}
 use lib.ListN.{length, get_or, set, length-set}
@@ -13,6 +14,8 @@ use Rattle.cells.proofs.Lists.{Sub, end, keep, skip, sub_all}
 use Rattle.cleanup.specs.Positions.{up_from, AllBelow}
 use Rattle.fates.specs.Fates.{among}
 use Rattle.fates.specs.Steps.{marked, placed}
+use Rattle.fates.specs.declared.Fate.{Fate}
+use Rattle.fates.specs.declared.Fate.TheVariants.{RepeatedLabel}
 
 -- ---- increasing lists
 
@@ -64,39 +67,47 @@ among_sub k (skip {x} s) e = by_test (eqb x k) (λ y. rw y) (λ y. rw y (among_s
 pub not-among_sub : {q p : List ℕ} (k : ℕ) → Sub q p → among k p ≡ false → among k q ≡ false
 not-among_sub {q} {p} k s e = by_test (among k q) (λ y. clash (among k p) (among_sub k s y) e) (λ y. y)
 
--- ---- one number at many places
+-- ---- one fate at many places
 
-pub length_marked : (x : ℕ) (p l : List ℕ) → length (marked x p l) ≡ length l
+pub length_marked : (x : Fate) (p : List ℕ) (l : List Fate) → length (marked x p l) ≡ length l
 length_marked x [] l = refl
 length_marked x (k ∷ p) l = length_marked x p (set l k x) ∙ length-set l k x
 
-pub get_or-marked : (x : ℕ) (p l : List ℕ) (k : ℕ) → k < length l → get_or (marked x p l) k 0 ≡ cond (among k p) x (get_or l k 0)
+pub get_or-marked : (x : Fate) (p : List ℕ) (l : List Fate) (k : ℕ) → k < length l → get_or (marked x p l) k RepeatedLabel ≡ cond (among k p) x (get_or l k RepeatedLabel)
 get_or-marked x [] l k h = refl
 get_or-marked x (j ∷ p) l k h = get_or-marked x p (set l j x) k (omega (arith, length-set l j x)) ∙ by_test (eqb j k)
-    (λ y. let e : get_or (set l j x) k 0 ≡ x = rw (eqb_true j k y) (get_or-set_same l k x 0 h) in rw (y, e) (same (among k p)))
-    (λ y. let e : get_or (set l j x) k 0 ≡ get_or l k 0 = get_or-set_other l j k x 0 (λ z. eqb_false j k y (sym z)) in rw (y, e))
+    (λ y. let e : get_or (set l j x) k RepeatedLabel ≡ x = rw (eqb_true j k y) (get_or-set_same l k x RepeatedLabel h) in rw (y, e) (same (among k p)))
+    (λ y. let e : get_or (set l j x) k RepeatedLabel ≡ get_or l k RepeatedLabel = get_or-set_other l j k x RepeatedLabel (λ z. eqb_false j k y (sym z)) in rw (y, e))
   where
     same : (b : Bool) → cond b x x ≡ x
     same true = refl
     same false = refl
 
 -- behind all places a list is as it was
-pub get_or-marked-behind : (x : ℕ) (p l : List ℕ) (k : ℕ) → AllBelow k p → get_or (marked x p l) k 0 ≡ get_or l k 0
+pub get_or-marked-behind : (x : Fate) (p : List ℕ) (l : List Fate) (k : ℕ) → AllBelow k p → get_or (marked x p l) k RepeatedLabel ≡ get_or l k RepeatedLabel
 get_or-marked-behind x [] l k a = refl
 get_or-marked-behind x (j ∷ p) l k a =
-    get_or-marked-behind x p (set l j x) k a.1 ∙ get_or-set_other l j k x 0 (λ z. omega (arith, a.0))
+    get_or-marked-behind x p (set l j x) k a.1 ∙ get_or-set_other l j k x RepeatedLabel (λ z. omega (arith, a.0))
 
--- ---- numbers, each at its place
+-- ---- fates, each at its place
 
-pub length-placed : (p xs l : List ℕ) → length (placed p xs l) ≡ length l
+pub length-placed : (p : List ℕ) (xs l : List Fate) → length (placed p xs l) ≡ length l
 length-placed [] xs l = refl
 length-placed (k ∷ p) [] l = refl
 length-placed (k ∷ p) (x ∷ xs) l = length-placed p xs (set l k x) ∙ length-set l k x
 
 -- at no place of it a list is as it was
-pub get_or-placed_other : (p xs l : List ℕ) (k : ℕ) → among k p ≡ false → get_or (placed p xs l) k 0 ≡ get_or l k 0
+pub get_or-placed_other : (p : List ℕ) (xs l : List Fate) (k : ℕ) → among k p ≡ false → get_or (placed p xs l) k RepeatedLabel ≡ get_or l k RepeatedLabel
 get_or-placed_other [] xs l k e = refl
 get_or-placed_other (j ∷ p) [] l k e = refl
 get_or-placed_other (j ∷ p) (x ∷ xs) l k e =
     let o = or_false (eqb j k) (among k p) e in
-    get_or-placed_other p xs (set l j x) k o.1 ∙ get_or-set_other l j k x 0 (λ z. eqb_false j k o.0 (sym z))
+    get_or-placed_other p xs (set l j x) k o.1 ∙ get_or-set_other l j k x RepeatedLabel (λ z. eqb_false j k o.0 (sym z))
+
+-- ---- what f says of n positions from m on
+pub get_or_up : {A : Type 0} (f : ℕ → A) (m n k : ℕ) (d : A) → k < n → get_or (map f (up_from m n)) k d ≡ f (m + k)
+get_or_up f m zero k d h = absurd (not-suc-le-zero h)
+get_or_up f m (suc n) zero d h = let e : m ≡ m + 0 = omega arith in ap f e
+get_or_up f m (suc n) (suc k) d h =
+    let e : m + 1 + k ≡ m + suc k = omega arith in
+    get_or_up f (m + 1) n k d (le_of_suc-le-suc h) ∙ ap f e

@@ -1,7 +1,6 @@
 -- What the answer says: where a cell stands, and that its fate is true there.
 use mathlib.Core.Path.{◌≡◌, refl, sym, ◌∙◌, ap, ap₂, subst}
 use mathlib.Core.Logic.{◌↔◌, ◌⊎◌, inl, inr}
-use mathlib.Core.Option.{Option, none, some}
 use mathlib.Core.List.{List, [], ◌∷◌, ◌++◌, map}
 use Prim.Native.Nat.{ℕ, zero, suc, ◌+◌, ◌-◌, ◌/◌, ◌≤◌, ◌<◌}
 use native.Mathlib.Nat.{le_of_suc-le-suc, not-suc-le-zero}
@@ -11,8 +10,6 @@ use lib.Dec.{ltb}
 use lib.ListN.{length, get_or, length-append}
 use Rattle.cells.specs.Cells.{Cell, cells}
 use Rattle.cells.specs.Functions.{Function, functions, cells_of, cells_of_all}
-use Rattle.cells.specs.declared.refusal.Checked.{Checked}
-use Rattle.cells.specs.declared.refusal.Checked.TheVariants.{Good, Refused as RefusedBy}
 use Rattle.cells.specs.declared.refusal.Refusal.{Refusal}
 use Rattle.cells.proofs.Cells.{length-cells}
 use Rattle.cells.proofs.Facts.{by_test}
@@ -27,13 +24,15 @@ use Rattle.fates.specs.Claim.{CodeTrue, EventTrue}
 use Rattle.fates.specs.Promises.{reply_of, HeadAt, CellAt, TrueOf, FateTold}
 use Rattle.fates.specs.declared.Fate.{Fate}
 use Rattle.fates.specs.declared.Fate.TheVariants.{RepeatedLabel}
-use Rattle.fates.specs.declared.CellFate.{CellFate}
-use Rattle.fates.specs.declared.CellFate.TheVariants.{Told, Refused, NothingToTell}
 use Rattle.fates.proofs.CodeTrue.{code_true}
 use Rattle.fates.proofs.EventTrue.{event_true}
 use Rattle.fates.proofs.GivesBack.{gives_back}
 use Rattle.fates.proofs.Finding.{get_or-cell, get_or-behind}
 use Rattle.fates.proofs.Whole.{length_fates, length_code_fates}
+use Rattle.std.specs.Prelude.{Ok, Err, Option, None, Some}
+use Rattle.cells.specs.Checked.{Checked}
+use Rattle.fates.specs.Told.{CellFate}
+use Rattle.fates.specs.declared.FateError.TheVariants.{Refused, NothingToTell}
 
 -- ---- the entry of a cell, by where it stands among functions fs whose first head is the cell d
 
@@ -45,7 +44,7 @@ length_own d f = ap suc (length-append f.code f.events ∙ sym (length_fates (d 
 
 -- behind the cells of the earlier functions
 behind_earlier : (d : ℕ) (earlier fs : List Function) (k : ℕ)
-    → get_or (fates_from d (earlier ++ fs)) (length (cells_of_all earlier) + k) none ≡ get_or (fates_from (d + length (cells_of_all earlier)) fs) k none
+    → get_or (fates_from d (earlier ++ fs)) (length (cells_of_all earlier) + k) None ≡ get_or (fates_from (d + length (cells_of_all earlier)) fs) k None
 behind_earlier d [] fs k =
     let e : 0 + k ≡ k = omega arith in
     let g : d + 0 ≡ d = omega arith in
@@ -57,31 +56,31 @@ behind_earlier d (f ∷ earlier) fs k =
     let a : d + 1 + length f.code + length f.events ≡ d + suc n = omega (arith, length_fates (d + 1) f.code f.events) in
     let e : length (cells_of f ++ cells_of_all earlier) + k ≡ suc (n + (m + k)) = omega arith in
     let g : d + suc n + m ≡ d + length (cells_of f ++ cells_of_all earlier) = omega arith in
-    ap (λ (j : ℕ). get_or (fates_from d (f ∷ (earlier ++ fs))) j none) e
+    ap (λ (j : ℕ). get_or (fates_from d (f ∷ (earlier ++ fs))) j None) e
     ∙ get_or-behind (own d f) (fates_from (d + 1 + length f.code + length f.events) (earlier ++ fs)) (m + k)
-    ∙ ap (λ (j : ℕ). get_or (fates_from j (earlier ++ fs)) (m + k) none) a
+    ∙ ap (λ (j : ℕ). get_or (fates_from j (earlier ++ fs)) (m + k) None) a
     ∙ behind_earlier (d + suc n) earlier fs k
-    ∙ ap (λ (j : ℕ). get_or (fates_from j fs) k none) g
+    ∙ ap (λ (j : ℕ). get_or (fates_from j fs) k None) g
 
-head_entry : (d : ℕ) (earlier : List Function) (f : Function) (later : List Function) → get_or (fates_from d (earlier ++ f ∷ later)) (length (cells_of_all earlier)) none ≡ none
+head_entry : (d : ℕ) (earlier : List Function) (f : Function) (later : List Function) → get_or (fates_from d (earlier ++ f ∷ later)) (length (cells_of_all earlier)) None ≡ None
 head_entry d earlier f later =
     let e : length (cells_of_all earlier) ≡ length (cells_of_all earlier) + 0 = omega arith in
-    ap (λ (j : ℕ). get_or (fates_from d (earlier ++ f ∷ later)) j none) e ∙ behind_earlier d earlier (f ∷ later) 0
+    ap (λ (j : ℕ). get_or (fates_from d (earlier ++ f ∷ later)) j None) e ∙ behind_earlier d earlier (f ∷ later) 0
 
 cell_entry : (d : ℕ) (earlier : List Function) (f : Function) (later : List Function) (place : ℕ) → place < length f.code + length f.events
-    → get_or (fates_from d (earlier ++ f ∷ later)) (length (cells_of_all earlier) + 1 + place) none ≡ some (get_or (own (d + length (cells_of_all earlier)) f) place RepeatedLabel)
+    → get_or (fates_from d (earlier ++ f ∷ later)) (length (cells_of_all earlier) + 1 + place) None ≡ Some (get_or (own (d + length (cells_of_all earlier)) f) place RepeatedLabel)
 cell_entry d earlier f later place h =
     let e : length (cells_of_all earlier) + 1 + place ≡ length (cells_of_all earlier) + suc place = omega arith in
-    ap (λ (j : ℕ). get_or (fates_from d (earlier ++ f ∷ later)) j none) e ∙ behind_earlier d earlier (f ∷ later) (suc place)
+    ap (λ (j : ℕ). get_or (fates_from d (earlier ++ f ∷ later)) j None) e ∙ behind_earlier d earlier (f ∷ later) (suc place)
     ∙ get_or-cell (own (d + length (cells_of_all earlier)) f) _ place (omega (arith, length_fates (d + length (cells_of_all earlier) + 1) f.code f.events))
 
-past_entry : (d : ℕ) (fs : List Function) (k : ℕ) → length (cells_of_all fs) ≤ k → get_or (fates_from d fs) k none ≡ none
+past_entry : (d : ℕ) (fs : List Function) (k : ℕ) → length (cells_of_all fs) ≤ k → get_or (fates_from d fs) k None ≡ None
 past_entry d [] k h = refl
 past_entry d (f ∷ fs) k h =
     let n = length (own d f) in
     let l : length (cells_of f ++ cells_of_all fs) ≡ suc (n + length (cells_of_all fs)) = length-append (cells_of f) (cells_of_all fs) ∙ ap (λ (j : ℕ). j + length (cells_of_all fs)) (length_own d f) ∙ omega arith in
     let e : k ≡ suc (n + (k - suc n)) = omega arith in
-    ap (λ (j : ℕ). get_or (fates_from d (f ∷ fs)) j none) e ∙ get_or-behind (own d f) _ (k - suc n) ∙ past_entry (d + 1 + length f.code + length f.events) fs (k - suc n) (omega arith)
+    ap (λ (j : ℕ). get_or (fates_from d (f ∷ fs)) j None) e ∙ get_or-behind (own d f) _ (k - suc n) ∙ past_entry (d + 1 + length f.code + length f.events) fs (k - suc n) (omega arith)
 
 -- ---- each position is a head's, a cell's, or past the end
 
@@ -158,15 +157,15 @@ all-cells : (s : List ℕ) → length (cells_of_all (functions (cells s))) ≡ l
 all-cells s = ap length (cells_of_functions (cells s)) ∙ length-cells s
 
 -- the fate of a cell that stands somewhere
-fate_there : {s : List ℕ} {k : ℕ} (c : CellAt s k) → get_or (image_fates s) k none ≡ some (get_or (own (length (cells_of_all c.earlier)) c.this) c.place RepeatedLabel)
+fate_there : {s : List ℕ} {k : ℕ} (c : CellAt s k) → get_or (image_fates s) k None ≡ Some (get_or (own (length (cells_of_all c.earlier)) c.this) c.place RepeatedLabel)
 unfolding image_fates
 fate_there {s} {k} c =
-    ap₂ (λ (fs : List Function) (j : ℕ). get_or (fates_from 0 fs) j none) c.parts c.is
+    ap₂ (λ (fs : List Function) (j : ℕ). get_or (fates_from 0 fs) j None) c.parts c.is
     ∙ cell_entry 0 c.earlier c.this c.later c.place c.inside
-    ∙ ap (λ (j : ℕ). some (get_or (own j c.this) c.place RepeatedLabel)) (omega arith)
+    ∙ ap (λ (j : ℕ). Some (get_or (own j c.this) c.place RepeatedLabel)) (omega arith)
 
 data At (s : List ℕ) (k : ℕ) : Type 0 where
-  nothing : (HeadAt s k ⊎ (length s / 16 ≤ k)) → get_or (image_fates s) k none ≡ none → At s k
+  nothing : (HeadAt s k ⊎ (length s / 16 ≤ k)) → get_or (image_fates s) k None ≡ None → At s k
   some_cell : CellAt s k → At s k
 
 at : (s : List ℕ) (k : ℕ) → At s k
@@ -176,36 +175,36 @@ at s k = go (place_of (functions (cells s)) k)
     go : Place (functions (cells s)) k → At s k
     go (head earlier f later p i) =
         nothing (inl (record { earlier = earlier; this = f; later = later; parts = p; is = i }))
-        (ap₂ (λ (fs : List Function) (j : ℕ). get_or (fates_from 0 fs) j none) p i ∙ head_entry 0 earlier f later)
+        (ap₂ (λ (fs : List Function) (j : ℕ). get_or (fates_from 0 fs) j None) p i ∙ head_entry 0 earlier f later)
     go (cell earlier f later p place i h) = some_cell (record { earlier = earlier; this = f; later = later; parts = p; place = place; is = i; inside = h })
     go (past h) = nothing (inr (omega (arith, all-cells s))) (past_entry 0 (functions (cells s)) k h)
 
-no_entry : (s : List ℕ) (k : ℕ) → (HeadAt s k ⊎ (length s / 16 ≤ k)) → get_or (image_fates s) k none ≡ none
+no_entry : (s : List ℕ) (k : ℕ) → (HeadAt s k ⊎ (length s / 16 ≤ k)) → get_or (image_fates s) k None ≡ None
 unfolding image_fates
 no_entry s k (inl h) =
-    ap₂ (λ (fs : List Function) (j : ℕ). get_or (fates_from 0 fs) j none) h.parts h.is ∙ head_entry 0 h.earlier h.this h.later
+    ap₂ (λ (fs : List Function) (j : ℕ). get_or (fates_from 0 fs) j None) h.parts h.is ∙ head_entry 0 h.earlier h.this h.later
 no_entry s k (inr h) = past_entry 0 (functions (cells s)) k (omega (arith, all-cells s))
 
 -- by the site check's answer and the entry
-refused-by : (c : Checked) (o : Option Fate) (x : Refusal) → (or_tell c (told o) ≡ Refused x) ↔ (c ≡ RefusedBy x)
-refused-by Good none x = (λ e. cc, λ e. cc)
-refused-by Good (some y) x = (λ e. cc, λ e. cc)
-refused-by (RefusedBy y) o x = (λ e. cc, λ e. cc)
+refused-by : (c : Checked) (o : Option Fate) (x : Refusal) → (or_tell c (told o) ≡ Err (Refused x)) ↔ (c ≡ Err x)
+refused-by (Ok tt) None x = (λ e. cc, λ e. cc)
+refused-by (Ok tt) (Some y) x = (λ e. cc, λ e. cc)
+refused-by (Err y) o x = (λ e. cc, λ e. cc)
 
-nothing_by : (c : Checked) (o : Option Fate) → (or_tell c (told o) ≡ NothingToTell) ↔ ((c ≡ Good) × (o ≡ none))
-nothing_by Good none = (λ e. (refl, refl), λ e. refl)
-nothing_by Good (some y) = (λ e. (refl, cc), λ e. let z = e.1 in cc)
-nothing_by (RefusedBy y) o = (λ e. let z : ◌≡◌ {A = ℕ} 0 1 = cc in absurd (omega arith), λ e. let z = e.0 in cc)
+nothing_by : (c : Checked) (o : Option Fate) → (or_tell c (told o) ≡ Err NothingToTell) ↔ ((c ≡ Ok tt) × (o ≡ None))
+nothing_by (Ok tt) None = (λ e. (refl, refl), λ e. refl)
+nothing_by (Ok tt) (Some y) = (λ e. (refl, cc), λ e. let z = e.1 in cc)
+nothing_by (Err y) o = (λ e. let z : ◌≡◌ {A = ℕ} 0 1 = cc in absurd (omega arith), λ e. let z = e.0 in cc)
 
-told-by : (c : Checked) (o : Option Fate) (x : Fate) → (or_tell c (told o) ≡ Told x) ↔ ((c ≡ Good) × (o ≡ some x))
-told-by Good none x = (λ e. (refl, cc), λ e. let z = e.1 in cc)
-told-by Good (some y) x = (λ e. (refl, cc), λ e. let z = e.1 in cc)
-told-by (RefusedBy y) o x = (λ e. let z : ◌≡◌ {A = ℕ} 0 1 = cc in absurd (omega arith), λ e. let z = e.0 in cc)
+told-by : (c : Checked) (o : Option Fate) (x : Fate) → (or_tell c (told o) ≡ Ok x) ↔ ((c ≡ Ok tt) × (o ≡ Some x))
+told-by (Ok tt) None x = (λ e. (refl, cc), λ e. let z = e.1 in cc)
+told-by (Ok tt) (Some y) x = (λ e. (refl, cc), λ e. let z = e.1 in cc)
+told-by (Err y) o x = (λ e. let z : ◌≡◌ {A = ℕ} 0 1 = cc in absurd (omega arith), λ e. let z = e.0 in cc)
 
-none_some : {x : Fate} (o : Option Fate) → o ≡ none → o ≡ some x → ⊥
+none_some : {x : Fate} (o : Option Fate) → o ≡ None → o ≡ Some x → ⊥
 none_some o e f = let z : ◌≡◌ {A = ℕ} 0 1 = cc in omega arith
 
-same_some : (o : Option Fate) (x y : Fate) → o ≡ some x → o ≡ some y → x ≡ y
+same_some : (o : Option Fate) (x y : Fate) → o ≡ Some x → o ≡ Some y → x ≡ y
 same_some o x y e f = cc
 
 pub fate_told : (s : List ℕ) (k : ℕ) {r : CellFate} → r ≡ fate_answer s k → FateTold s k r
@@ -221,16 +220,16 @@ fate_told s k {r} e = record {
 }
   where
     o : Option Fate
-    o = get_or (image_fates s) k none
+    o = get_or (image_fates s) k None
 
-    to_nothing : r ≡ NothingToTell → SitesPass s × (HeadAt s k ⊎ (length s / 16 ≤ k))
+    to_nothing : r ≡ Err NothingToTell → SitesPass s × (HeadAt s k ⊎ (length s / 16 ≤ k))
     to_nothing y = let (g, n) = (nothing_by (site_answer s) o).0 (sym e ∙ y) in ((site-good s).0 g, place (at s k) n)
       where
-        place : At s k → o ≡ none → HeadAt s k ⊎ (length s / 16 ≤ k)
+        place : At s k → o ≡ None → HeadAt s k ⊎ (length s / 16 ≤ k)
         place (nothing h _) n = h
         place (some_cell c) n = absurd (none_some o n (fate_there c))
 
-    to_true : (x : Fate) → r ≡ Told x → SitesPass s × CellAt s k × ((c : CellAt s k) → TrueOf (length (cells_of_all c.earlier) + 1) c.this c.place x)
+    to_true : (x : Fate) → r ≡ Ok x → SitesPass s × CellAt s k × ((c : CellAt s k) → TrueOf (length (cells_of_all c.earlier) + 1) c.this c.place x)
     to_true x y =
         let (g, n) = (told-by (site_answer s) o x).0 (sym e ∙ y) in (
           (site-good s).0 g,
@@ -240,6 +239,6 @@ fate_told s k {r} e = record {
               (true_at (length (cells_of_all c.earlier) + 1) c.this c.place c.inside),
         )
       where
-        place : At s k → o ≡ some x → CellAt s k
+        place : At s k → o ≡ Some x → CellAt s k
         place (nothing _ m) n = absurd (none_some o m n)
         place (some_cell c) n = c

@@ -1,8 +1,7 @@
 -- Promise: what each fate means, said of the rewrite's own definition (document 02, W6: "The reason is proved true of the rewrite's definition, and a
 -- cell has only one"), and that the fates of all cells give back what the rewrite hands back. `see` says what the n instruction cells of a function
 -- are; `left₁` to `left₄` are the positions that the sweeps leave (Fates.antt).
-use Rattle.std.specs.Prelude.{ℕ, ◌+◌, ◌<◌, ◌≡◌, true, false, cond, ◌||◌, List, [], ◌∷◌, ◌++◌, ◌↔◌, eqb, length, get_or}
-use Rattle.std.proofs.Math.Option.{Option, none, some}
+use Rattle.std.specs.Prelude.{ℕ, ◌+◌, ◌<◌, ◌≡◌, true, false, cond, ◌||◌, List, [], ◌∷◌, ◌++◌, ◌↔◌, eqb, length, get_or, Some, Option, None}
 use Rattle.cells.specs.Bytes.{half}
 use Rattle.cells.specs.Cells.{Cell}
 use Rattle.cells.specs.Functions.{Function}
@@ -10,7 +9,6 @@ use Rattle.cells.specs.Ins.{Const, Ins, label_of}
 use Rattle.cells.specs.Lists.{All}
 use Rattle.cells.specs.View.{view, load_bytes, load_cell}
 use Rattle.sites.specs.Sites.{site_of, event_site, stands}
-use Rattle.sites.specs.declared.Site.TheVariants.{At}
 use Rattle.sites.specs.declared.Which.{Which}
 use Rattle.cleanup.specs.Marks.{terminal, jump_of, removable_load}
 use Rattle.cleanup.specs.Sweeps.{removed}
@@ -37,8 +35,8 @@ module _ (see : ℕ → Ins) (n k : ℕ) where
     pub earlier : kept < k
     pub last : All (λ (j : ℕ). k < j) behind
     pub name : ℕ
-    pub of_kept : label_of (see kept) ≡ some name
-    pub of_this : label_of (see k) ≡ some name
+    pub of_kept : label_of (see kept) ≡ Some name
+    pub of_this : label_of (see k) ≡ Some name
 
   -- sweep one leaves it and sweep two does not; `end` is the last Ret or Jmp before it that sweep two leaves
   pub record UnreachableTrue (end : ℕ) : Type 0 where
@@ -52,8 +50,8 @@ module _ (see : ℕ → Ins) (n k : ℕ) where
     pub last : All (λ (j : ℕ). k < j) behind
     pub ends : terminal (see end) ≡ true
     -- and sweep one leaves no label between them; it is none itself
-    pub no_label : (j : ℕ) → among j (left₁ see n) ≡ true → end < j → j < k → label_of (see j) ≡ none
-    pub of_this : label_of (see k) ≡ none
+    pub no_label : (j : ℕ) → among j (left₁ see n) ≡ true → end < j → j < k → label_of (see j) ≡ None
+    pub of_this : label_of (see k) ≡ None
 
   -- it goes by its next cell: one sweep leaves the positions p, the next one only q; f finds in it the number that g finds in the next
   pub record ByNextTrue (f g : Ins → Option ℕ) (p q : List ℕ) : Type 0 where
@@ -64,8 +62,8 @@ module _ (see : ℕ → Ins) (n k : ℕ) where
     pub behind : List ℕ
     pub parts : p ≡ before ++ k ∷ next ∷ behind
     pub number : ℕ
-    pub of_this : f (see k) ≡ some number
-    pub of_next : g (see next) ≡ some number
+    pub of_this : f (see k) ≡ Some number
+    pub of_next : g (see next) ≡ Some number
 
 -- what the fold knows behind the cells at p
 abbrev pub known_behind : (ℕ → Ins) → Table → List ℕ → Table
@@ -115,7 +113,7 @@ OneOf e es = (i : ℕ) × (i < length es) × (get_or es i [] ≡ e)
 pub record GoneTrue (cs : List Cell) (e : Cell) : Type 0 where
   pub sort : Which
   pub site : ℕ
-  pub of_event : event_site sort e ≡ At site
+  pub of_event : event_site sort e ≡ Some site
   pub of_command : stands (site_of sort) site (removed view cs) ≡ true
 
 -- of an event of a function with the instruction cells cs and the events es: it is gone, or kept with nothing to add; it is gone exactly if it is not

@@ -3,11 +3,8 @@
 -- kept". It is told by the rewrite's own sweeps and fold (cleanup/specs/Sweeps, crystalfold/specs/Fold), over positions instead of cells: the sweep
 -- that takes a cell decides, and of the cells that all four leave the fold's verdict. A position is a place among a function's instruction cells,
 -- counted from 0; what is told counts every cell of the image, heads too.
-use Rattle.std.specs.Prelude.{ℕ, zero, suc, ◌+◌, Bool, cond, ◌&&◌, not, List, [], ◌∷◌, ◌++◌, map, eqb, length, get_or}
-use Rattle.std.proofs.Math.Option.{Option, none, some}
+use Rattle.std.specs.Prelude.{ℕ, zero, suc, ◌+◌, Bool, cond, ◌&&◌, not, List, [], ◌∷◌, ◌++◌, map, eqb, length, get_or, Ok, Err, Option, None, Some}
 use Rattle.leaves.specs.Quads.{number_of}
-use Rattle.leaves.specs.declared.verdict.Verdict.{Verdict}
-use Rattle.leaves.specs.declared.verdict.Verdict.TheVariants.{Value, LeftUnknown as LeftIs, RightUnknown as RightIs, Unfit as UnfitIs, DivisorZero as ZeroIs, OutOfRange as RangeIs, NotComputed}
 use Rattle.cells.specs.Cells.{Cell}
 use Rattle.cells.specs.Ins.{Const, quad, bool, f64, i32, u32, fx, Ins, load, comp, label, jmp, jmp_if, ret, act}
 use Rattle.cells.specs.Lists.{any}
@@ -23,6 +20,8 @@ use Rattle.crystalfold.specs.Fold.{Table, unknown, known_after}
 use Rattle.fates.specs.declared.Fate.{Fate}
 use Rattle.fates.specs.declared.Fate.TheVariants.{RepeatedLabel, Unreachable, JumpToNext, LoadOverwritten, Folded, EventGone, Kept}
 use Rattle.fates.specs.declared.Reason.TheVariants.{Nothing, LeftUnknown, RightUnknown, Unfit, DivisorZero, OutOfRange}
+use Rattle.leaves.specs.Verdict.{Verdict}
+use Rattle.leaves.specs.declared.verdict.Decline.TheVariants.{LeftUnknown as LeftIs, RightUnknown as RightIs, Unfit as UnfitIs, DivisorZero as ZeroIs, OutOfRange as RangeIs, NotComputed}
 
 -- ---- by the sweeps: n instruction cells, and what each is
 
@@ -60,13 +59,13 @@ module _ (see : ℕ → Ins) (n : ℕ) where
 -- ---- by the fold: the verdict on a cell that cleanup leaves, by what is known there
 
 abbrev pub verdict_of : Table → Ins → Verdict
-verdict_of t (load d v) = NotComputed
+verdict_of t (load d v) = Err NotComputed
 verdict_of t (comp c o d a b) = evaluate (default_rules o) (known_of (t a)) (known_of (t b))
-verdict_of t (label l) = NotComputed
-verdict_of t (jmp l) = NotComputed
-verdict_of t (jmp_if c l) = NotComputed
-verdict_of t (ret s) = NotComputed
-verdict_of t (act c d b) = NotComputed
+verdict_of t (label l) = Err NotComputed
+verdict_of t (jmp l) = Err NotComputed
+verdict_of t (jmp_if c l) = Err NotComputed
+verdict_of t (ret s) = Err NotComputed
+verdict_of t (act c d b) = Err NotComputed
 
 -- "folded, with the value": the command that loads it, and its bits
 abbrev pub load_of : Const → Fate
@@ -78,18 +77,18 @@ load_of (u32 n) = Folded 0x2E n
 load_of (fx n) = Folded 0x2A n
 
 abbrev pub folded_as : Option Const → Fate
-folded_as none = Kept Nothing
-folded_as (some v) = load_of v
+folded_as None = Kept Nothing
+folded_as (Some v) = load_of v
 
 -- "For a kept command the fold could compute, add the first that applies: left or only operand unknown, right unknown, kinds unfit, or W5's answer"
 abbrev pub judged : Verdict → Fate
-judged (Value v) = folded_as (written_of v)
-judged LeftIs = Kept LeftUnknown
-judged RightIs = Kept RightUnknown
-judged UnfitIs = Kept Unfit
-judged ZeroIs = Kept DivisorZero
-judged RangeIs = Kept OutOfRange
-judged NotComputed = Kept Nothing
+judged (Ok v) = folded_as (written_of v)
+judged (Err LeftIs) = Kept LeftUnknown
+judged (Err RightIs) = Kept RightUnknown
+judged (Err UnfitIs) = Kept Unfit
+judged (Err ZeroIs) = Kept DivisorZero
+judged (Err RangeIs) = Kept OutOfRange
+judged (Err NotComputed) = Kept Nothing
 
 -- along the cells at p, from what is known before them: the fate of the one at k
 abbrev pub fold_fate : (ℕ → Ins) → ℕ → Table → List ℕ → Fate

@@ -4,3 +4,4 @@ pub mod Claim
 pub mod Promises
 pub mod Steps
 pub mod Cases
+pub mod Told

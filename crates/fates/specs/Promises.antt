@@ -1,12 +1,11 @@
 -- Promise: what `cell_fate` promises of its answer r on the image s and a cell's position. It is lent nothing to write to. `answer` says everything
 -- outright; the other fields say what follows, and what the fate means, without the way by which it is defined.
-use Rattle.std.specs.Prelude.{ℕ, ◌+◌, ◌/◌, ◌≤◌, ◌<◌, ◌≡◌, ◌↔◌, ◌⊎◌, List, [], ◌∷◌, ◌++◌, length, get_or}
+use Rattle.std.specs.Prelude.{ℕ, ◌+◌, ◌/◌, ◌≤◌, ◌<◌, ◌≡◌, ◌↔◌, ◌⊎◌, List, [], ◌∷◌, ◌++◌, length, get_or, Ok, Err}
 use Rattle.cells.specs.Cells.{cells}
 use Rattle.cells.specs.Functions.{Function, functions, cells_of_all}
 use Rattle.cells.specs.Refusals.{numbered, numbers_of}
 use Rattle.cells.specs.declared.refusal.Numbers.{Numbers}
 use Rattle.cells.specs.declared.refusal.Refusal.{Refusal}
-use Rattle.cells.specs.declared.refusal.Checked.TheVariants.{Refused as RefusedBy}
 use Rattle.image.specs.SiteCheck.{site_answer, SitesPass}
 use Rattle.fates.specs.Answer.{fate_answer}
 use Rattle.fates.specs.Claim.{CodeTrue, EventTrue, GivesBack}
@@ -14,8 +13,8 @@ use Rattle.fates.specs.declared.Fate.{Fate}
 use Rattle.fates.specs.declared.Fate.TheVariants.{RepeatedLabel, Unreachable, JumpToNext, LoadOverwritten, Folded, EventGone, Kept}
 use Rattle.fates.specs.declared.Reason.{Reason}
 use Rattle.fates.specs.declared.Reason.TheVariants.{Nothing, LeftUnknown, RightUnknown, Unfit, DivisorZero, OutOfRange}
-use Rattle.fates.specs.declared.CellFate.{CellFate}
-use Rattle.fates.specs.declared.CellFate.TheVariants.{Told, Refused, NothingToTell}
+use Rattle.fates.specs.Told.{CellFate}
+use Rattle.fates.specs.declared.FateError.TheVariants.{Refused, NothingToTell}
 
 -- ---- an answer by numbers: three for a fate; or number, position and detail of a refusal
 
@@ -42,9 +41,9 @@ fate_reply (Kept r) = success 7 (reason_number r) 0
 
 -- "then 31 for those two"
 abbrev pub reply_of : CellFate → Reply
-reply_of (Told x) = fate_reply x
-reply_of (Refused x) = refusal (numbers_of x)
-reply_of NothingToTell = refusal (numbered 31 0 0)
+reply_of (Ok x) = fate_reply x
+reply_of (Err (Refused x)) = refusal (numbers_of x)
+reply_of (Err NothingToTell) = refusal (numbered 31 0 0)
 
 -- ---- where a cell stands
 
@@ -75,12 +74,12 @@ pub record FateTold (s : List ℕ) (cell : ℕ) (r : CellFate) : Type 0 where
   pub answer : r ≡ fate_answer s cell
   pub reply : reply_of r ≡ reply_of (fate_answer s cell)
   -- a refusal of the site check exactly if that refuses, and the same one, whatever the position
-  pub refused : (x : Refusal) → (r ≡ Refused x) ↔ (site_answer s ≡ RefusedBy x)
+  pub refused : (x : Refusal) → (r ≡ Err (Refused x)) ↔ (site_answer s ≡ Err x)
   -- 31 exactly if the site check passes and the position is a head's or past the end
-  pub nothing : (r ≡ NothingToTell) ↔ (SitesPass s × (HeadAt s cell ⊎ (length s / 16 ≤ cell)))
+  pub nothing : (r ≡ Err NothingToTell) ↔ (SitesPass s × (HeadAt s cell ⊎ (length s / 16 ≤ cell)))
   -- every other cell of an image that passes has a fate, and only one, since r is one answer; it is true of the rewrite's definition, wherever the
   -- cell is said to stand
-  pub every_cell : SitesPass s → CellAt s cell → (x : Fate) × (r ≡ Told x)
-  pub true_fate : (x : Fate) → r ≡ Told x → SitesPass s × CellAt s cell × ((c : CellAt s cell) → TrueOf (length (cells_of_all c.earlier) + 1) c.this c.place x)
+  pub every_cell : SitesPass s → CellAt s cell → (x : Fate) × (r ≡ Ok x)
+  pub true_fate : (x : Fate) → r ≡ Ok x → SitesPass s × CellAt s cell × ((c : CellAt s cell) → TrueOf (length (cells_of_all c.earlier) + 1) c.this c.place x)
   -- and the fates of a function's cells together give back what the default rewrite makes of it, with its count
   pub gives_back : (c : CellAt s cell) → GivesBack (length (cells_of_all c.earlier) + 1) c.this

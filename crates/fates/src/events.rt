@@ -1,70 +1,38 @@
 // Which events go with their sites.
-ghost use Rattle.std.specs.Prelude.{◌≡◌, cond, ◌/◌, ◌≤◌, length, take, replicate};
-ghost use Rattle.cells.specs.Cells.{cells};
+ghost use Rattle.std.specs.Prelude.{◌≡◌, cond, ◌/◌, ◌≤◌, length, map};
+ghost use Rattle.cells.specs.Cells.{cells, over};
 ghost use Rattle.cells.specs.Check.{max_instructions};
 ghost use Rattle.fates.specs.Fates.{event_fates};
-ghost use Rattle.fates.specs.Steps.{Listed, Spared};
+ghost use Rattle.fates.specs.Steps.{spared_fate};
 
-use crate::number::{EVENT_GONE, KEPT};
+use crate::{Fate, Reason};
 use cells::check::MAX_INSTRUCTIONS;
 use cells::read::CELL;
-use cells::walk::Part;
 use cleanup::events;
 use sites::Which;
 
-// The fates of a function's events, at the start of two lists.
-pub fn event_fates(code: &[u8], events: &[u8], kinds: &mut [u8], values: &mut [u64])
-    requires { (length code.now / 16 ≤ max_instructions) × (length events.now / 16 ≤ length kinds.old) × (length events.now / 16 ≤ length values.old) }
-    ensures { Listed (event_fates (cells code.now) (cells events.now)) kinds.old kinds.new values.old values.new }
+// The fates of a function's events, at the start of a list.
+pub fn event_fates(code: &[u8], events: &[u8], fates: &mut [Fate])
+    requires { (length code.now / 16 ≤ max_instructions) × (length events.now / 16 ≤ length fates.old) }
+    ensures { fates.new ≡ over (event_fates (cells code.now) (cells events.now)) fates.old }
 {
-    let mut activations = sites_buffer();
-    let mut writes = sites_buffer();
+    let mut activations = [0u32; MAX_INSTRUCTIONS];
+    let mut writes = [0u32; MAX_INSTRUCTIONS];
     let a = events::removed_sites(code, Which::Activation, &mut activations);
     let w = events::removed_sites(code, Which::Write, &mut writes);
-    by_sites(events, &activations, a, &writes, w, kinds, values);
+    by_sites(events, &activations[..a], &writes[..w], fates);
 }
 
-// By the sites on the cells removed: the first a of a list, and the first w of another.
-fn by_sites(
-    events: &[u8],
-    activations: &[u32],
-    a: usize,
-    writes: &[u32],
-    w: usize,
-    kinds: &mut [u8],
-    values: &mut [u64],
-)
-    requires { (a ≤ length activations.now) × (w ≤ length writes.now) × (length events.now / 16 ≤ length kinds.old) × (length events.now / 16 ≤ length values.old) }
-    ensures { Spared (take a activations.now) (take w writes.now) (cells events.now) kinds.old kinds.new values.old values.new }
+// By the sites on the cells removed.
+fn by_sites(events: &[u8], activations: &[u32], writes: &[u32], fates: &mut [Fate])
+    requires { length events.now / 16 ≤ length fates.old }
+    ensures { fates.new ≡ over (map (spared_fate activations.now writes.now) (cells events.now)) fates.old }
 {
-    let n = events.len() / CELL;
-    let mut i: usize = 0;
-    while i < n {
-        let here = i;
-        i += 1;
-        let borrow = events::among(
-            activations,
-            a,
-            sites::site_by(events, Part::Events, Which::Activation, here),
-        );
-        let write = events::among(
-            writes,
-            w,
-            sites::site_by(events, Part::Events, Which::Write, here),
-        );
-        kinds[here] = kind_if(borrow | write);
-        values[here] = 0;
+    for i in 0..events.len() / CELL {
+        fates[i] = if events::is_spared(events, i, activations, writes) {
+            Fate::Kept(Reason::Nothing)
+        } else {
+            Fate::EventGone
+        };
     }
-}
-
-fn kind_if(gone: bool) -> u8
-    ensures { result ≡ cond gone 6 7 }
-{
-    if gone { EVENT_GONE } else { KEPT }
-}
-
-fn sites_buffer() -> [u32; MAX_INSTRUCTIONS]
-    ensures { result ≡ replicate 2048 0 }
-{
-    [0; MAX_INSTRUCTIONS]
 }

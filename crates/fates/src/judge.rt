@@ -1,78 +1,63 @@
 // What the default fold makes of the cells that cleanup leaves: the fold's own walk, by its verdicts, over positions.
-ghost use Rattle.std.specs.Prelude.{◌≡◌, ◌≤◌, length, take};
-ghost use Rattle.leaves.specs.Verdicts.{value_in};
+ghost use Rattle.std.specs.Prelude.{◌≡◌, ◌≤◌, length};
+ghost use Rattle.cleanup.specs.Positions.{see_at};
 ghost use Rattle.crystalfold.specs.Fold.{unknown};
-ghost use Rattle.fates.specs.Steps.{Judgeable, Judged};
+ghost use Rattle.fates.specs.Steps.{Judgeable, fold_fates, placed, VerdictTold, ValueTold};
 
-use crate::number;
-use crate::number::KEPT;
-use cells::check::REGISTERS;
-use cleanup::sweeps;
+use crate::{Fate, Reason};
 use crystalfold::command::Command;
+use crystalfold::known::Known;
 use crystalfold::rules::RuleSet;
 use crystalfold::{arms, command};
 use leaves::constant::ConstVal;
-use leaves::verdict::Verdict;
+use leaves::float;
+use leaves::verdict::Decline;
 
-// The known table and the list of written registers are the fold's (crystalfold).
-const ENTRIES: usize = REGISTERS;
-
-const LISTED: usize = REGISTERS / 4;
-
-// Gives the cells at the first n positions of a list the kinds and values of their verdicts. A barrier writes only the entries that were written
-// since the last one, so that the whole takes time by the number of cells.
-pub fn judge(code: &[u8], list: &[u16], n: usize, kinds: &mut [u8], values: &mut [u64])
-    requires { Judgeable code.now list.now n kinds.old values.old }
-    ensures { Judged code.now (take n list.now) kinds.old kinds.new values.old values.new }
+// Gives the cells at the positions of a list the fates of their verdicts. A barrier writes only the entries that were written since the last one,
+// so that the whole takes time by the number of cells.
+pub fn judge(code: &[u8], list: &[u16], fates: &mut [Fate])
+    requires { Judgeable code.now list.now fates.old }
+    ensures { fates.new ≡ placed list.now (fold_fates (see_at code.now) unknown list.now) fates.old }
 {
-    let mut known = [ConstVal::Unknown; ENTRIES];
-    let mut written = [0usize; LISTED];
-    let mut listed: usize = 0;
-    let mut i: usize = 0;
-    while i < n {
-        let p = sweeps::position(list[i]);
-        i += 1;
-        kinds[p] = KEPT;
-        values[p] = 0;
+    let mut known = Known::nothing();
+    for at in list {
+        let p = usize::from(*at);
+        fates[p] = Fate::Kept(Reason::Nothing);
         match command::decode_at(code, p) {
-            Command::Barrier => {
-                if listed == LISTED {
-                    known = [ConstVal::Unknown; ENTRIES];
-                    listed = 0;
-                }
-                while 0 < listed {
-                    listed -= 1;
-                    known[written[listed]] = ConstVal::Unknown;
-                }
-            }
-            Command::Load(dst, v) => {
-                known[dst] = v;
-                listed = crystalfold::list_register(&mut written, listed, dst);
-            }
+            Command::Barrier => known.clear(),
+            Command::Load(dst, v) => known.note(dst, v),
             Command::Compute(op, dst, lhs, rhs) => {
-                let left = known[lhs];
-                let right = known[rhs];
-                let v = arms::fold_value(RuleSet::Default, op, left, right);
-                let told = number::of_verdict(v);
-                kinds[p] = told.kind;
-                values[p] = told.value;
-                known[dst] = value_in(v);
-                listed = crystalfold::list_register(&mut written, listed, dst);
+                let v = arms::fold_value(RuleSet::Default, op, known.of(lhs), known.of(rhs));
+                fates[p] = of_verdict(v);
+                known.note(dst, v.unwrap_or(ConstVal::Unknown));
             }
-            Command::Forget(dst) => {
-                known[dst] = ConstVal::Unknown;
-            }
+            Command::Forget(dst) => known.forget(dst),
             Command::Other => {}
         }
     }
 }
 
-// The value that a verdict is; Unknown where it is none.
-fn value_in(v: Verdict) -> ConstVal
-    ensures { result ≡ value_in v }
+// Of a command that cleanup leaves, by its verdict.
+fn of_verdict(v: Result<ConstVal, Decline>) -> Fate
+    ensures { VerdictTold v result }
 {
-    let Verdict::Value(x) = v else {
-        return ConstVal::Unknown;
-    };
-    x
+    match v {
+        Ok(x) => of_value(x),
+        Err(x) => Fate::Kept(Reason::from(x)),
+    }
+}
+
+// Folded to a value: the load's command, and the bits. Read back, they give the value.
+fn of_value(v: ConstVal) -> Fate
+    ensures { ValueTold v result }
+{
+    match v {
+        ConstVal::Unknown => Fate::Kept(Reason::Nothing),
+        ConstVal::Quad(q) => Fate::Folded(0x2C, u64::from(u8::from(q))),
+        ConstVal::Bool(b) => Fate::Folded(0x28, u64::from(b)),
+        ConstVal::F64(x) => Fate::Folded(0x29, float::to_bits(x)),
+        ConstVal::I32(a) => Fate::Folded(0x2B, u64::from(a.cast_unsigned())),
+        ConstVal::U32(a) => Fate::Folded(0x2E, u64::from(a)),
+        ConstVal::Fx(a) => Fate::Folded(0x2A, u64::from(a.cast_unsigned())),
+    }
 }

@@ -7,14 +7,13 @@ use native.Mathlib.Omega.{arith}
 use lib.ListN.{length, drop, length-append}
 use Rattle.cells.specs.Cells.{cells, flat, Full}
 use Rattle.cells.specs.Check.{max_image, max_instructions, max_events}
-use Rattle.cells.specs.Functions.{Function, there, Counted, function_from, functions, cells_of, cells_of_all}
+use Rattle.cells.specs.Functions.{Function, there, Counted, function_of, function_from, functions, cells_of, cells_of_all}
 use Rattle.cells.specs.Lists.{All}
 use Rattle.cells.specs.Spans.{part, SpanAt}
 use Rattle.cells.specs.declared.walk.Span.{Span}
 use Rattle.cells.specs.WellFormed.{InstructionGood, EventGood, WellFormed}
-use Rattle.cells.specs.declared.refusal.Checked.TheVariants.{Good}
 use Rattle.cells.proofs.Answers.{or_left, or_right, or-both}
-use Rattle.cells.proofs.Cells.{full_cells, length-flat, cells-flat, flat-cells}
+use Rattle.cells.proofs.Cells.{length-cells, full_cells, length-flat, cells-flat, flat-cells}
 use Rattle.cells.proofs.Checks.{instruction_good, event_good, head-good, head_fits}
 use Rattle.cells.proofs.Functions.{cells_of_functions, functions_of_cells}
 use Rattle.cells.proofs.Lists.{all_append, all_each, all_parts}
@@ -23,6 +22,7 @@ use Rattle.sites.specs.Validators.{validate_activation_sites, validate_write_sit
 use Rattle.image.specs.Image.{GoodFunction, GoodImage}
 use Rattle.image.specs.SiteCheck.{GoodSites, SitesPass}
 use Rattle.image.proofs.Good.{good-counted}
+use Rattle.std.specs.Prelude.{Ok}
 
 -- a good function that its head counts, with all bytes of its cells
 well_formed : (f : Function) → GoodFunction f → Counted f → Full (cells_of f) → WellFormed f
@@ -68,6 +68,13 @@ few_cells {s} {at} {r} z a =
     let c = length_part s r.code r.events (omega (arith, z.events)) (omega (arith, z.within, z.end)) in
     let e = length_part s r.events r.end (omega (arith, z.end)) z.within in
     (omega (arith, c, z.events, w.counted.0, t.0), omega (arith, e, z.end, w.counted.1, t.1))
+
+-- the parts of a well-formed function are within the limits
+pub parts_fit : (h c e : List ℕ) → WellFormed (function_of h c e) → (length c / 16 ≤ max_instructions) × (length e / 16 ≤ max_events)
+parts_fit h c e w =
+    let f : Function = function_of h c e in
+    let t = head_fits 0 0 (there f) f.head (w.head 0 0) in
+    (omega (arith, length-cells c, w.counted.0, t.0), omega (arith, length-cells e, w.counted.1, t.1))
 
 -- and such functions, one after another, are a good image if they are not too many
 pub all_full : (fs : List Function) → All WellFormed fs → Full (cells_of_all fs)
@@ -123,10 +130,10 @@ module _ (h : Function → Function) (formed : (f : Function) → WellFormed f �
         let a = length-flat (cells_of_all (map h (functions (cells s)))) (all_full (map h (functions (cells s))) handed_formed) in
         formed_image (map h (functions (cells s))) handed_formed (omega (arith, a, handed_shorter, g.short))
 
-  module _ (passes : (position : ℕ) (f : Function) → site_check position f.code f.events ≡ Good → site_check position (h f).code (h f).events ≡ Good) where
+  module _ (passes : (position : ℕ) (f : Function) → site_check position f.code f.events ≡ Ok tt → site_check position (h f).code (h f).events ≡ Ok tt) where
     function_again : (f : Function) → GoodSites f → GoodSites (h f)
     function_again f g =
-        let e : (position : ℕ) → site_check position (h f).code (h f).events ≡ Good =
+        let e : (position : ℕ) → site_check position (h f).code (h f).events ≡ Ok tt =
         λ p. passes p f (or-both (validate_activation_sites p f.code f.events) (validate_write_sites p f.code f.events) (g.activation p) (g.write p)) in
         record {
           activation = λ p. or_left (validate_activation_sites p (h f).code (h f).events) (validate_write_sites p (h f).code (h f).events) (e p);

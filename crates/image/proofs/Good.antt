@@ -16,8 +16,6 @@ use Rattle.cells.specs.Check.{code_count, event_count, is_command, is_event_kind
 use Rattle.cells.specs.Functions.{Function, Counted, there, function_at, behind, functions}
 use Rattle.cells.specs.Refusals.{numbers_in}
 use Rattle.cells.specs.View.{view, Registers}
-use Rattle.cells.specs.declared.refusal.Checked.{Checked}
-use Rattle.cells.specs.declared.refusal.Checked.TheVariants.{Good}
 use Rattle.cells.proofs.Answers.{or_left, or_right, or-both}
 use Rattle.cells.proofs.Cells.{cells-append}
 use Rattle.cells.proofs.Checks.{instruction_good, event_good, head-good, head_fits}
@@ -32,6 +30,8 @@ use Rattle.image.specs.Image.{cell_check, cells_answer, function_answer, functio
 use Rattle.image.specs.SiteCheck.{sites_answer, site_answer, GoodSites, SitesPass}
 use Rattle.image.specs.Operations.{ImageChecked, SiteChecked}
 use Rattle.image.proofs.Steps.{image_even, accepted}
+use Rattle.std.specs.Prelude.{Ok}
+use Rattle.cells.specs.Checked.{Checked}
 
 -- ---- the image check
 
@@ -39,11 +39,11 @@ abbrev CellOk : Part → Cell → Type 0
 CellOk Code c = (is_command c ≡ true) × (row_ok (byte c 0) c ≡ true)
 CellOk Events c = (is_event_kind c ≡ true) × (row_ok event_row c ≡ true)
 
-cell-good : (q : Part) (p d : ℕ) (c : Cell) → (cell_check q p d c ≡ Good) ↔ CellOk q c
+cell-good : (q : Part) (p d : ℕ) (c : Cell) → (cell_check q p d c ≡ Ok tt) ↔ CellOk q c
 cell-good Code p d c = instruction_good p d c
 cell-good Events p d c = event_good p d c
 
-cells-good : (q : Part) (p d : ℕ) (cs : List Cell) → (cells_answer q p d cs ≡ Good) ↔ All (CellOk q) cs
+cells-good : (q : Part) (p d : ℕ) (cs : List Cell) → (cells_answer q p d cs ≡ Ok tt) ↔ All (CellOk q) cs
 cells-good q p d [] = ((λ e. tt), (λ t. refl))
 cells-good q p d (c ∷ cs) =
     let rest = cells_answer q p (d + 1) cs in (
@@ -51,7 +51,7 @@ cells-good q p d (c ∷ cs) =
       (λ t. or-both (cell_check q p d c) rest ((cell-good q p d c).1 t.0) ((cells-good q p (d + 1) cs).1 t.1)),
     )
 
-function-good : (p d : ℕ) (f : Function) → (function_answer p d f ≡ Good) ↔ GoodFunction f
+function-good : (p d : ℕ) (f : Function) → (function_answer p d f ≡ Ok tt) ↔ GoodFunction f
 function-good p d f =
     let h = head_check p d (there f) f.head in
     let k = cells_answer Code p (d + 1) f.code in
@@ -70,7 +70,7 @@ function-good p d f =
           (or-both k v ((cells-good Code p (d + 1) f.code).1 g.code) ((cells-good Events p (d + 1 + length f.code) f.events).1 g.events))),
     )
 
-functions-good : (p d : ℕ) (fs : List Function) → (functions_answer p d fs ≡ Good) ↔ All GoodFunction fs
+functions-good : (p d : ℕ) (fs : List Function) → (functions_answer p d fs ≡ Ok tt) ↔ All GoodFunction fs
 functions-good p d [] = ((λ e. tt), (λ t. refl))
 functions-good p d (f ∷ fs) =
     let n = d + 1 + length f.code + length f.events in
@@ -79,7 +79,7 @@ functions-good p d (f ∷ fs) =
       (λ t. or-both (function_answer p d f) rest ((function-good p d f).1 t.0) ((functions-good (p + 1) n fs).1 t.1)),
     )
 
-pub image_good : (s : List ℕ) → (image_answer s ≡ Good) ↔ GoodImage s
+pub image_good : (s : List ℕ) → (image_answer s ≡ Ok tt) ↔ GoodImage s
 image_good s = (
   (λ e.
       let a = accepted s e in
@@ -89,7 +89,7 @@ image_good s = (
 
 -- ---- the site check
 
-function_sites : (p : ℕ) (f : Function) → (site_check p f.code f.events ≡ Good) ↔ GoodSites f
+function_sites : (p : ℕ) (f : Function) → (site_check p f.code f.events ≡ Ok tt) ↔ GoodSites f
 function_sites p f =
     let a = validate_activation_sites p f.code f.events in
     let w = validate_write_sites p f.code f.events in (
@@ -100,7 +100,7 @@ function_sites p f =
       (λ g. or-both a w (g.activation p) (g.write p)),
     )
 
-sites_good : (p : ℕ) (fs : List Function) → (sites_answer p fs ≡ Good) ↔ All GoodSites fs
+sites_good : (p : ℕ) (fs : List Function) → (sites_answer p fs ≡ Ok tt) ↔ All GoodSites fs
 sites_good p [] = ((λ e. tt), (λ t. refl))
 sites_good p (f ∷ fs) =
     let h = site_check p f.code f.events in
@@ -109,7 +109,7 @@ sites_good p (f ∷ fs) =
       (λ t. or-both h rest ((function_sites p f).1 t.0) ((sites_good (p + 1) fs).1 t.1)),
     )
 
-pub site-good : (s : List ℕ) → (site_answer s ≡ Good) ↔ SitesPass s
+pub site-good : (s : List ℕ) → (site_answer s ≡ Ok tt) ↔ SitesPass s
 unfolding site_answer
 site-good s =
     let i = image_answer s in
@@ -123,7 +123,7 @@ site-good s =
 
 -- ---- the contracts follow from the answers
 
-same_good : {P : Type 0} (r a : Checked) → r ≡ a → (a ≡ Good) ↔ P → (r ≡ Good) ↔ P
+same_good : {P : Type 0} (r a : Checked) → r ≡ a → (a ≡ Ok tt) ↔ P → (r ≡ Ok tt) ↔ P
 same_good r a e i = ((λ g. i.0 (sym e ∙ g)), (λ p. e ∙ i.1 p))
 
 pub image_checked : (s : List ℕ) (r : Checked) → r ≡ image_answer s → ImageChecked s r

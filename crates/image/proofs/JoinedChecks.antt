@@ -17,8 +17,6 @@ use Rattle.cells.specs.Table.{event_row, head_row}
 use Rattle.cells.specs.WellFormed.{WellFormed}
 use Rattle.cells.specs.declared.refusal.Refusal.{Refusal}
 use Rattle.cells.specs.declared.refusal.Refusal.TheVariants.{Length, Head, UnknownCommand, Operand, ActivationSiteRepeated, ActivationSiteOnWrite, ActivationSiteClaimedTwice, ActivationSitesDiffer, WriteSiteRepeated, WriteSiteUnclaimed, StoreVarSiteClaimedTwice, WriteSiteUnknown}
-use Rattle.cells.specs.declared.refusal.Checked.{Checked}
-use Rattle.cells.specs.declared.refusal.Checked.TheVariants.{Good, Refused}
 use Rattle.cells.specs.declared.walk.Part.{Part}
 use Rattle.cells.specs.declared.walk.Part.TheVariants.{Code, Events}
 use Rattle.cells.specs.Lists.{All}
@@ -28,8 +26,6 @@ use Rattle.cells.proofs.Functions.{cells_of_functions}
 use Rattle.cells.proofs.Lists.{all_parts}
 use Rattle.sites.specs.Sites.{is_write, is_store_var, site_of, event_site, site_by, stands}
 use Rattle.sites.specs.Validators.{judge_site, judge_command, repeat_answer, judge_activation, judge_event, activation_answer, judge_met, judge_kind, judge_claim, judge_by, rule_answer, standing, site_check}
-use Rattle.sites.specs.declared.Site.{Site}
-use Rattle.sites.specs.declared.Site.TheVariants.{Absent, At}
 use Rattle.sites.specs.declared.Which.{Which}
 use Rattle.sites.specs.declared.Which.TheVariants.{Activation, Write}
 use Rattle.sites.specs.declared.Rule.{Rule}
@@ -40,17 +36,19 @@ use Rattle.image.specs.JoinedChecks.{moved, moved_answer, answer_behind, ChecksJ
 use Rattle.image.proofs.Steps.{accepted}
 use Rattle.image.proofs.Good.{image_good, functions_joined}
 use Rattle.image.proofs.Again.{all_full, formed_functions, formed_image, image_formed}
+use Rattle.std.specs.Prelude.{Option, Some, None, Ok, Err}
+use Rattle.cells.specs.Checked.{Checked}
 
 -- c is a, moved on
 record Moves (p d : ℕ) (a c : Checked) : Type 0 where
   is : c ≡ moved_answer p d a
 
 moved-or : (p d : ℕ) (a b : Checked) → or_else (moved_answer p d a) (moved_answer p d b) ≡ moved_answer p d (or_else a b)
-moved-or p d Good b = refl
-moved-or p d (Refused x) b = refl
+moved-or p d (Ok tt) b = refl
+moved-or p d (Err x) b = refl
 
 module _ (p d : ℕ) where
-  good : Moves p d Good Good
+  good : Moves p d (Ok tt) (Ok tt)
   good = record { is = refl }
 
   both : {a b c e : Checked} → Moves p d a c → Moves p d b e → Moves p d (or_else a b) (or_else c e)
@@ -58,7 +56,7 @@ module _ (p d : ℕ) where
 
   -- ---- the image check
 
-  tested : (t u : Bool) (x y : Refusal) → Moves p d (cond t (unless u x) (Refused y)) (cond t (unless u (moved p d x)) (Refused (moved p d y)))
+  tested : (t u : Bool) (x y : Refusal) → Moves p d (cond t (unless u x) (Err y)) (cond t (unless u (moved p d x)) (Err (moved p d y)))
   tested true true x y = record { is = refl }
   tested true false x y = record { is = refl }
   tested false u x y = record { is = refl }
@@ -93,7 +91,7 @@ module _ (p d : ℕ) where
 
   -- ---- the validators, whose refusals name no cell
 
-  refuses : (t : Bool) (x : Refusal) {a b : Checked} → Moves p d a b → Moves p d (cond t (Refused x) a) (cond t (Refused (moved p d x)) b)
+  refuses : (t : Bool) (x : Refusal) {a b : Checked} → Moves p d a b → Moves p d (cond t (Err x) a) (cond t (Err (moved p d x)) b)
   refuses true x e = record { is = refl }
   refuses false x e = e
 
@@ -102,29 +100,29 @@ module _ (p d : ℕ) where
   scan-moved j k f es (c ∷ cs) = both (f es c) (scan-moved j k f (es ++ c ∷ []) cs)
 
   module _ (q : ℕ) where
-    site-moved : (w : Which) (es : List Cell) (s : Site) → Moves p d (judge_site w q es s) (judge_site w (p + q) es s)
-    site-moved w es Absent = good
-    site-moved Activation es (At x) = refuses (stands (site_of Activation) x es) (ActivationSiteRepeated q x) good
-    site-moved Write es (At x) = refuses (stands (site_of Write) x es) (WriteSiteRepeated q x) good
+    site-moved : (w : Which) (es : List Cell) (s : Option ℕ) → Moves p d (judge_site w q es s) (judge_site w (p + q) es s)
+    site-moved w es None = good
+    site-moved Activation es (Some x) = refuses (stands (site_of Activation) x es) (ActivationSiteRepeated q x) good
+    site-moved Write es (Some x) = refuses (stands (site_of Write) x es) (WriteSiteRepeated q x) good
 
-    event_moved : (es : List Cell) (write : Bool) (s : Site) → Moves p d (judge_activation q es write s) (judge_activation (p + q) es write s)
-    event_moved es write Absent = good
-    event_moved es write (At x) = refuses write (ActivationSiteOnWrite q x) (refuses (stands (event_site Activation) x es) (ActivationSiteClaimedTwice q x) good)
+    event_moved : (es : List Cell) (write : Bool) (s : Option ℕ) → Moves p d (judge_activation q es write s) (judge_activation (p + q) es write s)
+    event_moved es write None = good
+    event_moved es write (Some x) = refuses write (ActivationSiteOnWrite q x) (refuses (stands (event_site Activation) x es) (ActivationSiteClaimedTwice q x) good)
 
-    met_moved : (w : Which) (count : ℕ → ℕ) (s : Site) → Moves p d (judge_met w q count s) (judge_met w (p + q) count s)
-    met_moved w count Absent = good
-    met_moved Activation count (At x) = refuses (eqb (count x) 0) (ActivationSitesDiffer q) good
-    met_moved Write count (At x) = refuses (eqb (count x) 0) (WriteSiteUnknown q x) good
+    met_moved : (w : Which) (count : ℕ → ℕ) (s : Option ℕ) → Moves p d (judge_met w q count s) (judge_met w (p + q) count s)
+    met_moved w count None = good
+    met_moved Activation count (Some x) = refuses (eqb (count x) 0) (ActivationSitesDiffer q) good
+    met_moved Write count (Some x) = refuses (eqb (count x) 0) (WriteSiteUnknown q x) good
 
-    kind_moved : (write : Bool) (s : Site) → Moves p d (judge_kind q write s) (judge_kind (p + q) write s)
-    kind_moved true Absent = record { is = refl }
-    kind_moved false Absent = good
-    kind_moved true (At x) = good
-    kind_moved false (At x) = record { is = refl }
+    kind_moved : (write : Bool) (s : Option ℕ) → Moves p d (judge_kind q write s) (judge_kind (p + q) write s)
+    kind_moved true None = record { is = refl }
+    kind_moved false None = good
+    kind_moved true (Some x) = good
+    kind_moved false (Some x) = record { is = refl }
 
-    claim_moved : (count : ℕ → ℕ) (store : Bool) (s : Site) → Moves p d (judge_claim q count store s) (judge_claim (p + q) count store s)
-    claim_moved count store Absent = good
-    claim_moved count store (At x) =
+    claim_moved : (count : ℕ → ℕ) (store : Bool) (s : Option ℕ) → Moves p d (judge_claim q count store s) (judge_claim (p + q) count store s)
+    claim_moved count store None = good
+    claim_moved count store (Some x) =
         refuses (eqb (count x) 0) (WriteSiteUnclaimed q x) (refuses (store && not (eqb (count x) 1)) (StoreVarSiteClaimedTwice q x) good)
 
     rule_moved : (r : Rule) (count : ℕ → ℕ) (c : Cell) → Moves p d (judge_by r q count c) (judge_by r (p + q) count c)
@@ -166,8 +164,8 @@ module _ (p d : ℕ) where
 -- ---- functions one after another
 
 or_assoc : (a b c : Checked) → or_else (or_else a b) c ≡ or_else a (or_else b c)
-or_assoc Good b c = refl
-or_assoc (Refused x) b c = refl
+or_assoc (Ok tt) b c = refl
+or_assoc (Err x) b c = refl
 
 functions_then : (q e : ℕ) (fs gs : List Function)
     → functions_answer q e (fs ++ gs) ≡ or_else (functions_answer q e fs) (functions_answer (q + length fs) (e + length (cells_of_all fs)) gs)
@@ -189,20 +187,20 @@ sites_then q (f ∷ fs) gs =
 -- ---- two images
 
 -- a test on the length before an answer
-moved_test : (p d : ℕ) (t : Bool) (a b : Checked) → a ≡ moved_answer p d b → cond t a (Refused Length) ≡ moved_answer p d (cond t b (Refused Length))
+moved_test : (p d : ℕ) (t : Bool) (a b : Checked) → a ≡ moved_answer p d b → cond t a (Err Length) ≡ moved_answer p d (cond t b (Err Length))
 moved_test p d true a b e = e
 moved_test p d false a b e = refl
 
 -- two answers with one between them, and without it where the first decides
 or_between : (p d : ℕ) (i a v : Checked) → or_else (moved_answer p d i) (or_else a (moved_answer p d v)) ≡ or_else (moved_answer p d i) (or_else a (moved_answer p d (or_else i v)))
-or_between p d Good a v = refl
-or_between p d (Refused x) a v = refl
+or_between p d (Ok tt) a v = refl
+or_between p d (Err x) a v = refl
 
 or_twice : (p d : ℕ) (i v : Checked) → or_else (moved_answer p d i) (moved_answer p d (or_else i v)) ≡ moved_answer p d (or_else i v)
-or_twice p d Good v = refl
-or_twice p d (Refused x) v = refl
+or_twice p d (Ok tt) v = refl
+or_twice p d (Err x) v = refl
 
-module _ (s t : List ℕ) (g : image_answer s ≡ Good) (short : length s + length t ≤ max_image) where
+module _ (s t : List ℕ) (g : image_answer s ≡ Ok tt) (short : length s + length t ≤ max_image) where
   joined_functions : functions (cells (s ++ t)) ≡ functions (cells s) ++ functions (cells t)
   joined_functions = functions_joined s t ((image_good s).0 g)
 
@@ -228,7 +226,7 @@ module _ (s t : List ℕ) (g : image_answer s ≡ Good) (short : length s + leng
   image_joined : image_answer (s ++ t) ≡ answer_behind s (image_answer t)
   unfolding image_answer
   image_joined =
-      ap (λ (b : Bool). cond b (functions_answer 0 0 (functions (cells (s ++ t)))) (Refused Length)) joined_length
+      ap (λ (b : Bool). cond b (functions_answer 0 0 (functions (cells (s ++ t)))) (Err Length)) joined_length
       ∙ moved_test (length (functions (cells s))) (length s / 16) (good_length t) _ _ functions-answer
 
   sites_answer_lem : sites_answer 0 (functions (cells (s ++ t))) ≡ or_else (sites_answer 0 (functions (cells s))) (answer_behind s (sites_answer 0 (functions (cells t))))
@@ -248,7 +246,7 @@ module _ (s t : List ℕ) (g : image_answer s ≡ Good) (short : length s + leng
       ap₂ or_else image_joined (sites_answer_lem ∙ ap (λ (a : Checked). or_else a (answer_behind s (sites_answer 0 (functions (cells t))))) first_sites)
       ∙ or_between (length (functions (cells s))) (length s / 16) (image_answer t) (site_answer s) (sites_answer 0 (functions (cells t)))
 
-  good_joined : site_answer s ≡ Good → site_answer (s ++ t) ≡ answer_behind s (site_answer t)
+  good_joined : site_answer s ≡ Ok tt → site_answer (s ++ t) ≡ answer_behind s (site_answer t)
   unfolding site_answer
   good_joined e =
       sites_joined ∙ ap (or_else (answer_behind s (image_answer t))) (or-good _ e)

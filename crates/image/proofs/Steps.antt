@@ -1,6 +1,6 @@
 -- Laws of the image check's answers: one step over cells, and one over functions.
 use mathlib.Core.Path.{◌≡◌, ap, sym, ◌∙◌}
-use mathlib.Core.List.{List, []}
+use mathlib.Core.List.{List, [], ◌∷◌}
 use Prim.Native.Nat.{ℕ, ◌+◌, ◌/◌, ◌%◌, ◌≤◌, ◌<◌}
 use native.Mathlib.Nat.{add_assoc}
 use native.Mathlib.Omega.{arith}
@@ -14,8 +14,6 @@ use Rattle.cells.specs.Functions.{Function, there, function_of, function_from, f
 use Rattle.cells.specs.Spans.{part, SpanAt}
 use Rattle.cells.specs.declared.walk.Span.{Span}
 use Rattle.cells.specs.declared.refusal.Refusal.TheVariants.{Length}
-use Rattle.cells.specs.declared.refusal.Checked.{Checked}
-use Rattle.cells.specs.declared.refusal.Checked.TheVariants.{Good, Refused}
 use Rattle.cells.proofs.Answers.{test_good}
 use Rattle.cells.proofs.Cells.{length-cells}
 use Rattle.cells.proofs.Facts.{and_true}
@@ -26,6 +24,8 @@ use Rattle.cells.specs.declared.walk.Part.{Part}
 use Rattle.cells.specs.declared.walk.Part.TheVariants.{Events}
 use Rattle.image.specs.Image.{image_answer, good_length, cell_check, cells_answer, function_answer, functions_answer}
 use Rattle.image.specs.SiteCheck.{sites_answer}
+use Rattle.std.specs.Prelude.{Ok, Err}
+use Rattle.cells.specs.Checked.{Checked}
 
 -- a turn over cells: what was said of the cell at i decides, or the cells from i + 1 on do
 pub cells_turn : (q : Part) (p d : ℕ) (cs : List Cell) (i : ℕ) {all r : Checked} → i < length cs → r ≡ cell_check q p (d + i) (get_or cs i [])
@@ -72,11 +72,11 @@ functions_end s at h =
     ap functions (drop_of_length-le (cells s) l) ∙ functions_nil
 
 -- the whole answer, by the tests on the length
-pub image_long : (s : List ℕ) → max_image < length s → Refused Length ≡ image_answer s
+pub image_long : (s : List ℕ) → max_image < length s → Err Length ≡ image_answer s
 unfolding image_answer
 image_long s h = simp (lt-leb _ _ h)
 
-pub image_uneven : (s : List ℕ) → length s ≤ max_image → (length s % 16 ≡ 0 → ⊥) → Refused Length ≡ image_answer s
+pub image_uneven : (s : List ℕ) → length s ≤ max_image → (length s % 16 ≡ 0 → ⊥) → Err Length ≡ image_answer s
 unfolding image_answer
 image_uneven s h n = simp (le-leb _ _ h, ne_eqb _ _ n)
 
@@ -85,9 +85,23 @@ unfolding image_answer
 image_even s h e = simp (le-leb _ _ h, e)
 
 -- an accepted image: its length, and its functions
-pub accepted : (s : List ℕ) → image_answer s ≡ Good → (length s ≤ max_image) × (length s % 16 ≡ 0) × (functions_answer 0 0 (functions (cells s)) ≡ Good)
+pub accepted : (s : List ℕ) → image_answer s ≡ Ok tt → (length s ≤ max_image) × (length s % 16 ≡ 0) × (functions_answer 0 0 (functions (cells s)) ≡ Ok tt)
 unfolding image_answer
 accepted s g =
     let w = test_good (good_length s) (functions_answer 0 0 (functions (cells s))) Length g in
     let t = and_true (leb (length s) max_image) (eqb (length s % 16) 0) w.0 in
     (leb-true _ _ t.0, eqb-true _ _ t.1, w.1)
+
+-- a turn of the walk over functions: what was said of the next one decides, or those behind it do
+module _ (s t h c e : List ℕ) (x : functions (cells s) ≡ function_of h c e ∷ functions (cells t)) where
+  pub function_turn : (p at : ℕ) {all r : Checked} → all ≡ functions_answer p at (functions (cells s)) → r ≡ function_answer p at (function_of h c e)
+      → all ≡ or_else r (functions_answer (p + 1) (at + (1 + length c / 16 + length e / 16)) (functions (cells t)))
+  function_turn p at {all} {r} w v =
+      let n : at + 1 + length (cells c) + length (cells e) ≡ at + (1 + length c / 16 + length e / 16) = omega (arith, length-cells c, length-cells e) in
+      w ∙ ap (functions_answer p at) x
+      ∙ ap (λ (y : Checked). or_else y (functions_answer (p + 1) (at + 1 + length (cells c) + length (cells e)) (functions (cells t)))) (sym v)
+      ∙ ap (λ (j : ℕ). or_else r (functions_answer (p + 1) j (functions (cells t)))) n
+
+  pub site_turn : (p : ℕ) {all r : Checked} → all ≡ sites_answer p (functions (cells s)) → r ≡ site_check p (cells c) (cells e)
+      → all ≡ or_else r (sites_answer (p + 1) (functions (cells t)))
+  site_turn p w v = w ∙ ap (sites_answer p) x ∙ ap (λ (y : Checked). or_else y (sites_answer (p + 1) (functions (cells t)))) (sym v)

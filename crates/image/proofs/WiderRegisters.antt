@@ -10,18 +10,18 @@ use Rattle.cells.specs.Answers.{or_else}
 use Rattle.cells.specs.Cells.{Cell, cells}
 use Rattle.cells.specs.Check.{registers, head_check}
 use Rattle.cells.specs.Functions.{Function, there, functions}
-use Rattle.cells.specs.declared.refusal.Checked.{Checked}
-use Rattle.cells.specs.declared.refusal.Checked.TheVariants.{Good, Refused}
 use Rattle.cells.specs.declared.refusal.Refusal.TheVariants.{Length}
 use Rattle.cells.specs.declared.walk.Part.TheVariants.{Code, Events}
 use Rattle.cells.proofs.WiderRegisters.{instruction_below, instruction_today, AsBefore, or_as_before, test_as_before, instruction_as_before}
 use Rattle.image.specs.Image.{cells_answer, function_answer, functions_answer, good_length, image_answer}
 use Rattle.image.specs.SiteCheck.{site_answer, sites_answer}
+use Rattle.std.specs.Prelude.{Ok, Err}
+use Rattle.cells.specs.Checked.{Checked}
 
 -- ---- with a limit
 
 abbrev pub code_below : ℕ → ℕ → ℕ → List Cell → Checked
-code_below limit position d [] = Good
+code_below limit position d [] = Ok tt
 code_below limit position d (c ∷ cs) = or_else (instruction_below limit position d c) (code_below limit position (d + 1) cs)
 
 abbrev pub function_below : ℕ → ℕ → ℕ → Function → Checked
@@ -31,12 +31,12 @@ function_below limit position d f =
     (cells_answer Events position (d + 1 + length f.code) f.events))
 
 abbrev pub functions_below : ℕ → ℕ → ℕ → List Function → Checked
-functions_below limit position d [] = Good
+functions_below limit position d [] = Ok tt
 functions_below limit position d (f ∷ fs) =
     or_else (function_below limit position d f) (functions_below limit (position + 1) (d + 1 + length f.code + length f.events) fs)
 
 abbrev pub image_below : ℕ → List ℕ → Checked
-image_below limit s = cond (good_length s) (functions_below limit 0 0 (functions (cells s))) (Refused Length)
+image_below limit s = cond (good_length s) (functions_below limit 0 0 (functions (cells s))) (Err Length)
 
 abbrev pub sites_below : ℕ → List ℕ → Checked
 sites_below limit s = or_else (image_below limit s) (sites_answer 0 (functions (cells s)))
@@ -59,7 +59,7 @@ functions_today position d (f ∷ fs) =
 
 pub image_today : (s : List ℕ) → image_below registers s ≡ image_answer s
 unfolding image_answer
-image_today s = ap (λ (r : Checked). cond (good_length s) r (Refused Length)) (functions_today 0 0 (functions (cells s)))
+image_today s = ap (λ (r : Checked). cond (good_length s) r (Err Length)) (functions_today 0 0 (functions (cells s)))
 
 pub sites_today : (s : List ℕ) → sites_below registers s ≡ site_answer s
 unfolding site_answer

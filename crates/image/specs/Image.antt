@@ -1,5 +1,5 @@
 -- Promise: the image check (document 01, 'Answers of the operations'): 1 a length above 65,536 or no multiple of 16; then, cell by cell, 2, 3 and 4.
-use Rattle.std.specs.Prelude.{ℕ, ◌+◌, ◌%◌, ◌≤◌, ◌≡◌, List, [], ◌∷◌, Bool, true, cond, ◌&&◌, leb, eqb, length}
+use Rattle.std.specs.Prelude.{ℕ, ◌+◌, ◌%◌, ◌≤◌, ◌≡◌, List, [], ◌∷◌, Bool, true, cond, ◌&&◌, leb, eqb, length, Ok, Err}
 use Rattle.cells.specs.Bytes.{byte}
 use Rattle.cells.specs.Cells.{Cell, cells}
 use Rattle.cells.specs.Lists.{All}
@@ -7,11 +7,10 @@ use Rattle.cells.specs.Table.{event_row, head_row}
 use Rattle.cells.specs.Answers.{or_else}
 use Rattle.cells.specs.Check.{max_image, is_command, is_event_kind, is_head, row_ok, instruction_check, event_check, head_check}
 use Rattle.cells.specs.Functions.{Function, there, functions}
-use Rattle.cells.specs.declared.refusal.Checked.{Checked}
-use Rattle.cells.specs.declared.refusal.Checked.TheVariants.{Good, Refused}
 use Rattle.cells.specs.declared.refusal.Refusal.TheVariants.{Length}
 use Rattle.cells.specs.declared.walk.Part.{Part}
 use Rattle.cells.specs.declared.walk.Part.TheVariants.{Code, Events}
+use Rattle.cells.specs.Checked.{Checked}
 
 -- a cell of a part, the cell d of the image, in the function at a position
 abbrev pub cell_check : Part → ℕ → ℕ → Cell → Checked
@@ -20,7 +19,7 @@ cell_check Events position d c = event_check position d c
 
 -- the cells of a part one after another, the first being the image's cell d
 abbrev pub cells_answer : Part → ℕ → ℕ → List Cell → Checked
-cells_answer p position d [] = Good
+cells_answer p position d [] = Ok tt
 cells_answer p position d (c ∷ cs) = or_else (cell_check p position d c) (cells_answer p position (d + 1) cs)
 
 -- one function, whose head is the image's cell d
@@ -31,7 +30,7 @@ function_answer position d f =
     (cells_answer Events position (d + 1 + length f.code) f.events))
 
 abbrev pub functions_answer : ℕ → ℕ → List Function → Checked
-functions_answer position d [] = Good
+functions_answer position d [] = Ok tt
 functions_answer position d (f ∷ fs) =
     or_else (function_answer position d f) (functions_answer (position + 1) (d + 1 + length f.code + length f.events) fs)
 
@@ -40,7 +39,7 @@ good_length s = leb (length s) max_image && eqb (length s % 16) 0
 
 -- the whole image
 unfoldable pub image_answer : List ℕ → Checked
-image_answer s = cond (good_length s) (functions_answer 0 0 (functions (cells s))) (Refused Length)
+image_answer s = cond (good_length s) (functions_answer 0 0 (functions (cells s))) (Err Length)
 
 -- ---- what a good image is
 

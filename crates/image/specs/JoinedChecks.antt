@@ -1,16 +1,15 @@
 -- Promise: the two checks of images joined (document 02, W12): what they answer of s ++ t, where the image check passes s and both together are within
 -- the limit. A refusal of t is t's own, moved on by the functions and the cells of s: it tells whose function is at fault.
-use Rattle.std.specs.Prelude.{ℕ, ◌+◌, ◌/◌, ◌≤◌, ◌≡◌, List, ◌++◌, length, take}
+use Rattle.std.specs.Prelude.{ℕ, ◌+◌, ◌/◌, ◌≤◌, ◌≡◌, List, ◌++◌, length, take, Ok, Err}
 use Rattle.cells.specs.Answers.{or_else}
 use Rattle.cells.specs.Cells.{cells, flat}
 use Rattle.cells.specs.Check.{max_image}
 use Rattle.cells.specs.Functions.{functions, cells_of_all}
 use Rattle.cells.specs.declared.refusal.Refusal.{Refusal}
 use Rattle.cells.specs.declared.refusal.Refusal.TheVariants.{Length, Head, UnknownCommand, Operand, OutputTooShort, ActivationSiteRepeated, ActivationSiteOnWrite, ActivationSiteClaimedTwice, ActivationSitesDiffer, WriteSiteRepeated, WriteSiteOnBorrow, WriteWithoutSite, WriteSiteUnclaimed, StoreVarSiteClaimedTwice, WriteSiteUnknown}
-use Rattle.cells.specs.declared.refusal.Checked.{Checked}
-use Rattle.cells.specs.declared.refusal.Checked.TheVariants.{Good, Refused}
 use Rattle.image.specs.Image.{image_answer}
 use Rattle.image.specs.SiteCheck.{site_answer}
+use Rattle.cells.specs.Checked.{Checked}
 
 -- a refusal with p functions of d cells, heads among them, before the image: the function's position moves on, and where the detail is a cell's
 -- position (2 to 4) it does too; a site stays, and so do 1 and 5, which name no function
@@ -32,8 +31,8 @@ moved p d (StoreVarSiteClaimedTwice q x) = StoreVarSiteClaimedTwice (p + q) x
 moved p d (WriteSiteUnknown q x) = WriteSiteUnknown (p + q) x
 
 abbrev pub moved_answer : ℕ → ℕ → Checked → Checked
-moved_answer p d Good = Good
-moved_answer p d (Refused x) = Refused (moved p d x)
+moved_answer p d (Ok tt) = Ok tt
+moved_answer p d (Err x) = Err (moved p d x)
 
 -- a refusal, and an answer, as they read where the image s stands before
 abbrev pub refusal_behind : List ℕ → Refusal → Refusal
@@ -50,11 +49,11 @@ pub record ChecksJoined (s t : List ℕ) : Type 0 where
   -- the site check: first the image check of t; then the validators on s, then those on t
   pub sites : site_answer (s ++ t) ≡ or_else (answer_behind s (image_answer t)) (or_else (site_answer s) (answer_behind s (site_answer t)))
   -- so where it passes s it answers what it answers of t
-  pub behind_good : site_answer s ≡ Good → site_answer (s ++ t) ≡ answer_behind s (site_answer t)
+  pub behind_good : site_answer s ≡ Ok tt → site_answer (s ++ t) ≡ answer_behind s (site_answer t)
 
 -- the theorem `checks_joined` of proofs/JoinedChecks
 abbrev pub ChecksJoin : Type 0
-ChecksJoin = (s t : List ℕ) → image_answer s ≡ Good → length s + length t ≤ max_image → ChecksJoined s t
+ChecksJoin = (s t : List ℕ) → image_answer s ≡ Ok tt → length s + length t ≤ max_image → ChecksJoined s t
 
 -- s ends where a function of s ++ t ends: it is the first k of these functions
 abbrev pub EndsFunction : List ℕ → List ℕ → Type 0

@@ -1,7 +1,6 @@
 -- Worked: images, each with what the image check and the site check answer: `good`, or a refusal's number, position and detail; and refusals moved on
 -- (document 02, W12).
-use Rattle.std.specs.Prelude.{ℕ, ◌≡◌, refl, List, [], ◌∷◌, ◌++◌, map, Bool, true, false, ◌&&◌, eqb, replicate}
-use Rattle.std.proofs.Math.Option.{Option, none, some}
+use Rattle.std.specs.Prelude.{ℕ, ◌≡◌, refl, List, [], ◌∷◌, ◌++◌, map, Bool, true, false, ◌&&◌, eqb, replicate, Option, None, Some}
 use Rattle.cells.specs.Bytes.{bytes}
 use Rattle.cells.specs.Assembler.{cell, site, no_site, Head, StoreVarSited, MakeRecord, Borrow, Write, LoadI32, AddI32, StoreVar, Assert, JmpIf, Call, Ret, Label, function}
 use Rattle.cells.specs.Cells.{Cell, flat}
@@ -21,10 +20,10 @@ pub record ImageCase : Type 0 where
   pub sites : Option Numbers
 
 abbrev pub good : Option Numbers
-good = none
+good = None
 
 abbrev pub refused : ℕ → ℕ → ℕ → Option Numbers
-refused number position detail = some (numbered number position detail)
+refused number position detail = Some (numbered number position detail)
 
 abbrev pub case : List ℕ → Option Numbers → Option Numbers → ImageCase
 case i c s = record { image = i; checked = c; sites = s }
@@ -152,10 +151,10 @@ abbrev pub same_numbers : Numbers → Numbers → Bool
 same_numbers a b = eqb a.number b.number && eqb a.position b.position && eqb a.detail b.detail
 
 abbrev pub same : Option Numbers → Option Numbers → Bool
-same none none = true
-same none (some b) = false
-same (some a) none = false
-same (some a) (some b) = same_numbers a b
+same None None = true
+same None (Some b) = false
+same (Some a) None = false
+same (Some a) (Some b) = same_numbers a b
 
 abbrev pub holds : List ImageCase → Bool
 holds [] = true

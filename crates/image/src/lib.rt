@@ -10,47 +10,33 @@ ghost use Rattle.image.specs.Image.{image_answer};
 ghost use Rattle.image.specs.SiteCheck.{sites_answer};
 ghost use Rattle.image.specs.Operations.{ImageChecked, SiteChecked};
 
-use cells::read::CELL;
-use cells::refusal::Checked;
-use cells::walk;
+use cells::refusal::Refusal;
+use cells::walk::Functions;
 
 // The image check: 1, then 2, 3 and 4 cell by cell.
-pub fn image_check(image: &[u8]) -> Checked
+pub fn image_check(image: &[u8]) -> Result<(), Refusal>
     ensures { ImageChecked image.now result }
 {
     check::check_image(image)
 }
 
 // The site check: as the image check over the whole image, then function by function.
-pub fn site_check(image: &[u8]) -> Checked
+pub fn site_check(image: &[u8]) -> Result<(), Refusal>
     ensures { SiteChecked image.now result }
 {
-    let r = check::check_image(image);
-    let Checked::Good = r else {
-        return r;
-    };
+    check::check_image(image)?;
     check_functions(image)
 }
 
 // Both validators on each function of an image that the image check passes.
-fn check_functions(image: &[u8]) -> Checked
-    requires { image_answer image.now ≡ Checked.Good }
+fn check_functions(image: &[u8]) -> Result<(), Refusal>
+    requires { image_answer image.now ≡ Ok tt }
     ensures { result ≡ sites_answer 0 (functions (cells image.now)) }
 {
-    let n = image.len() / CELL;
-    let mut at = 0;
     let mut position = 0;
-    while at < n {
-        let f = walk::function_at(image, at);
-        let a = f.code;
-        let b = f.events;
-        let e = f.end;
-        let r = sites::check_sites(&image[a..b], &image[b..e], position);
-        let Checked::Good = r else {
-            return r;
-        };
-        at = e / CELL;
+    for f in Functions::of(image) {
+        sites::check_sites(f.code, f.events, position)?;
         position += 1;
     }
-    Checked::Good
+    Ok(())
 }

@@ -22,10 +22,7 @@ pub fn reason_len(text: &[u8]) -> usize
     ensures value { result ≡ reason_len text.now }
 {
     for i in 0..text.len() {
-        if text[i] == 0 {
-            return i;
-        }
-        if text[i..].starts_with(b" (os error ") {
+        if text[i] == 0 || text[i..].starts_with(b" (os error ") {
             return i;
         }
     }

@@ -14,17 +14,15 @@ pub fn arg_count(rt: &impl Env) -> usize {
     usize::MAX
 }
 
-// Puts a word at the start of the buffer; how many bytes it has. One that is not there, or is longer than the buffer, is answered as the empty word.
-pub fn arg(rt: &impl Env, i: usize, buffer: &mut [u8]) -> usize
-    ensures { result ≤ length buffer.new }
+// A word, which is put at the start of the buffer. One that is not there, or is longer than the buffer, is answered as the empty word.
+pub fn arg<'a>(rt: &impl Env, i: usize, buffer: &'a mut [u8]) -> &'a [u8]
+    ensures { length result.now ≤ length buffer.old }
 {
-    match rt.arg(i, buffer) {
-        Ok(n) => n,
-        Err(_) => 0,
-    }
+    let n = rt.arg(i, buffer).unwrap_or(0);
+    &buffer[..n]
 }
 
-// Whether two words are the same.
+// Whether two words are the same. (`==` alone wants both of one type: `word == b"release".as_slice()`.)
 pub fn same(a: &[u8], b: &[u8]) -> bool
     ensures { (result ≡ true) ↔ (a.now ≡ b.now) }
 {

@@ -1,11 +1,10 @@
 -- Which floats and which patterns are NaN's.
-use Rattle.std.proofs.Common.{◌≡◌, ℕ, ◌%◌, ◌^◌, ◌<◌, ◌≤◌, Bool, true, false, not, T, sym, refl, ◌∙◌, subst}
+use Rattle.std.proofs.Common.{◌≡◌, ℕ, ◌%◌, ◌^◌, ◌<◌, ◌≤◌, Bool, true, not, T, sym, refl, ap, ◌∙◌, subst}
 use mathlib.Core.Path.{subst⁻¹}
 use lib.Ieee
 use lib.Ieee as Ieee
 use lib.Ieee.{Float, nan, inf, fin, binary64}
 use lib.Ieee.Bits.{nan_bits_is, nan_bits_above, of_bits-to_bits, of_bits-fits, to_bits-of_bits}
-use lib.Ieee.Compare.{differs_from_itself}
 use Rattle.leaves.specs.Float.{float_of, bits_of}
 use mir.Facts.{no_ltb, yes_ltb}
 
@@ -15,15 +14,10 @@ is_nan nan t = refl
 is_nan (inf s) t = absurd t
 is_nan (fin s m e) t = absurd t
 
--- a float that is equal to itself is no NaN
-pub not_nan : (x : Float) → Ieee.ne x x ≡ false → T (not (Ieee.is_nan x))
-unfolding Ieee.is_nan Ieee.ne Ieee.eq
-not_nan nan e = subst T e tt
-not_nan (inf s) e = tt
-not_nan (fin s m e) h = tt
-
-pub differs : (x : Float) → Ieee.ne x x ≡ true → x ≡ nan
-differs x e = differs_from_itself x (subst T (sym e) tt)
+-- the pattern that is written of a NaN
+pub nan_pattern : (x : Float) → Ieee.is_nan x ≡ true → bits_of x ≡ 0x7ff8_0000_0000_0000
+unfolding bits_of Ieee.to_bits
+nan_pattern x e = ap bits_of (is_nan x (subst T (sym e) tt))
 
 -- a pattern without its sign above that of infinity is a NaN's, and no other is
 pub above : (n : ℕ) → 0x7ff0_0000_0000_0000 < n % 0x8000_0000_0000_0000 → Ieee.of_bits binary64 n ≡ nan

@@ -1,12 +1,12 @@
 -- Laws of signed integers and their bits.
-use Rattle.std.proofs.Common.{◌≡◌, ℕ, zero, suc, ◌+◌, ◌-◌, ◌*◌, ◌%◌, ◌<◌, ◌≤◌, true, false, T, ◌⊎◌, ℤ, pos, negsuc, ◌+ℤ◌, ◌-ℤ◌, ◌*ℤ◌, neg_ℤ, sym, refl, ap, ◌∙◌, subst, inl, inr, ⊎_elim, mul_comm, add-mul, add_comm, mul-add, arith, to_z-of_z, w32, w64, SFits, to_z, of_z, ltb-true, le-ltb, lt-ltb}
+use Rattle.std.proofs.Common.{◌≡◌, ℕ, zero, suc, ◌+◌, ◌-◌, ◌*◌, ◌%◌, ◌<◌, ◌≤◌, ◌⊎◌, ℤ, pos, negsuc, ◌*ℤ◌, neg_ℤ, sym, refl, ap, ◌∙◌, inl, inr, mul_comm, add-mul, add_comm, mul-add, arith, to_z-of_z, w32, w64, SFits, to_z, of_z, le-ltb, lt-ltb}
 use native.Mathlib.Decide.{dec_lt}
 use lib.IntN.{sub_ℕ}
-use lib.Signed.{mag, lt_z}
-use mir.Facts.{sfits_widen}
 use Rattle.leaves.specs.declared.constant.ConstVal.TheVariants.{I32}
-use Rattle.leaves.specs.declared.verdict.Verdict.TheVariants.{Value}
+use Rattle.leaves.specs.Verdict.{Verdict}
+use Rattle.std.specs.Int.{int_wrap}
 use Rattle.leaves.specs.Signed.{residue, wrap}
+use Rattle.std.specs.Prelude.{Ok}
 
 -- ---- a difference of two naturals
 
@@ -28,80 +28,14 @@ pub bits_below : (a : ℤ) → SFits w32 a → of_z w32 a < 4294967296
 bits_below (pos n) h = let k : n < 2147483648 = h.sfits in omega arith
 bits_below (negsuc n) h = let k : n < 2147483648 = h.sfits in omega arith
 
-pub below_zero : (a : ℤ) → SFits w32 a → lt_z a (pos 0) ≡ true → a +ℤ pos 4294967296 ≡ pos (of_z w32 a)
-below_zero (pos n) h t = let k : n < 0 = ltb-true n 0 t in absurd (omega arith)
-below_zero (negsuc n) h t = let k : n < 2147483648 = h.sfits in sub_pos 4294967296 (suc n) (omega arith)
-
-pub not_below_zero : (a : ℤ) → lt_z a (pos 0) ≡ false → pos (of_z w32 a) ≡ a
-not_below_zero (pos n) t = refl
-not_below_zero (negsuc n) t = absurd (subst T t tt)
-
 pub fits64 : (n : ℕ) → n < 4294967296 → SFits w64 (pos n)
 fits64 n h = record { sfits = omega arith }
-
-pub above_half : (n : ℕ) → n < 4294967296 → 2147483648 ≤ n → pos n -ℤ pos 4294967296 ≡ to_z w32 n
-above_half n h k = sub_neg n 4294967296 h ∙ rw (le-ltb n 2147483648 k)
-
--- as `bits_of` has it at 64 bits: a negative number and 2^32 are its bits, and another number is them
-pub raised : (a : ℤ) → SFits w32 a → lt_z (to_z w32 (of_z w32 a)) (pos 0) ≡ true → to_z w64 (of_z w64 (to_z w32 (of_z w32 a))) +ℤ pos 4294967296 ≡ pos (of_z w32 a)
-raised a h t = let k : SFits w64 a = sfits_widen tt h in simp (to_z-of_z h, to_z-of_z k) (below_zero a h (simp (to_z-of_z h) at t))
-
-pub unraised : (a : ℤ) → SFits w32 a → lt_z (to_z w32 (of_z w32 a)) (pos 0) ≡ false → pos (of_z w32 a) ≡ to_z w32 (of_z w32 a)
-unraised a h t = not_below_zero a (simp (to_z-of_z h) at t) ∙ sym (to_z-of_z h)
-
--- and `of_bits`: bits from 2^31 on and 2^32 less are the number's
-pub lowered : (n : ℕ) → n < 4294967296 → 2147483648 ≤ n → to_z w64 (of_z w64 (pos n)) -ℤ pos 4294967296 ≡ to_z w32 n
-lowered n h k = simp (to_z-of_z (fits64 n h)) (above_half n h k)
 
 -- a number at 64 bits that is z is z
 pub kept64 : {x z : ℤ} → SFits w64 z → x ≡ z → to_z w64 (of_z w64 x) ≡ z
 kept64 h e = ap (λ (y : ℤ). to_z w64 (of_z w64 y)) e ∙ to_z-of_z h
 
--- ---- residues modulo 2^32: the bits of a sum, a difference and a product
-
-residue_sub : (m n : ℕ) → n < 4294967296 → residue (sub_ℕ m (suc n)) 4294967296 ≡ (m + (4294967296 - suc n)) % 4294967296
-unfolding residue
-residue_sub m n k = ⊎_elim
-    (λ (l : m < suc n). rw (sub_neg m (suc n) l) (omega arith))
-    (λ (l : suc n ≤ m). rw (sub_pos m (suc n) l) (omega arith))
-    (less_or-not m (suc n))
-
-pub residue_add : (a b : ℤ) → SFits w32 a → SFits w32 b → residue (a +ℤ b) 4294967296 ≡ (of_z w32 a + of_z w32 b) % 4294967296
-unfolding residue
-residue_add (pos m) (pos n) h k = refl
-residue_add (pos m) (negsuc n) h k = let v : n < 2147483648 = k.sfits in residue_sub m n (omega arith)
-residue_add (negsuc m) (pos n) h k =
-    let u : m < 2147483648 = h.sfits in
-    residue_sub n m (omega arith) ∙ ap (λ (x : ℕ). x % 4294967296) (add_comm n (4294967296 - suc m))
-residue_add (negsuc m) (negsuc n) h k =
-    let u : m < 2147483648 = h.sfits in
-    let v : n < 2147483648 = k.sfits in
-    omega arith
-
--- r is what b's bits added to give a's
-pub residue-minus : (a b : ℤ) (r : ℕ) → SFits w32 a → SFits w32 b → r < 4294967296 → (r + of_z w32 b) % 4294967296 ≡ of_z w32 a
-    → residue (a -ℤ b) 4294967296 ≡ r
-unfolding residue
-residue-minus (pos m) (pos zero) r h k l e = let u : m < 2147483648 = h.sfits in omega arith
-residue-minus (pos m) (pos (suc n)) r h k l e =
-    let u : m < 2147483648 = h.sfits in
-    let v : suc n < 2147483648 = k.sfits in
-    residue_sub m n (omega arith) ∙ omega arith
-residue-minus (pos m) (negsuc n) r h k l e =
-    let u : m < 2147483648 = h.sfits in
-    let v : n < 2147483648 = k.sfits in
-    omega arith
-residue-minus (negsuc m) (pos zero) r h k l e =
-    let u : m < 2147483648 = h.sfits in
-    residue_sub 0 m (omega arith) ∙ omega arith
-residue-minus (negsuc m) (pos (suc n)) r h k l e =
-    let u : m < 2147483648 = h.sfits in
-    let v : suc n < 2147483648 = k.sfits in
-    omega arith
-residue-minus (negsuc m) (negsuc n) r h k l e =
-    let u : m < 2147483648 = h.sfits in
-    let v : n < 2147483648 = k.sfits in
-    residue_sub (suc n) m (omega arith) ∙ omega arith
+-- ---- residues modulo 2^32: the bits of a product
 
 -- where P and N add up to a multiple of 2^32, P is the residue of -N
 residue_neg : (P N k : ℕ) → P + N ≡ k * 4294967296 → residue (neg_ℤ (pos N)) 4294967296 ≡ P % 4294967296
@@ -135,7 +69,13 @@ residue_mul (negsuc m) (negsuc n) h k = residue_pos (suc m * suc n) ∙ same_res
     (add_comm (suc m * suc n) ((4294967296 - suc m) * suc n) ∙ left-sum m (suc n) h.sfits)
     (right-sum (4294967296 - suc m) n k.sfits)
 
--- the answer made of the number whose bits are z's residue
-pub wrapped : (r z : ℤ) (n : ℕ) → mag r < 2147483648 → r ≡ to_z w32 n → n ≡ residue z 4294967296 → Value (I32 (to_z w32 (of_z w32 r))) ≡ Value (I32 (wrap z))
-unfolding wrap
-wrapped r z n ok e f = ap (λ (x : ℤ). Value (I32 x)) (to_z-of_z {w = w32} (record { sfits = ok }) ∙ e ∙ ap (λ (m : ℕ). to_z w32 m) f)
+-- ---- what the wrapping operations leave
+
+wrap_is : (z : ℤ) → int_wrap w32 z ≡ wrap z
+unfolding int_wrap wrap residue
+wrap_is (pos n) = refl
+wrap_is (negsuc n) = ap (λ (m : ℕ). to_z w32 m) (omega arith)
+
+-- the value made of it
+pub wrapped : {r : ℤ} (z : ℤ) → r ≡ int_wrap w32 z → ◌≡◌ {A = Verdict} (Ok (I32 r)) (Ok (I32 (wrap z)))
+wrapped z e = ap (λ (x : ℤ). Ok (I32 x)) (e ∙ wrap_is z)

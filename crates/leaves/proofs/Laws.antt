@@ -12,12 +12,13 @@ use borrow.Author.Tests.{eqb-false, lt-leb}
 use mir.Facts.{of_z-to_z, sfits_to_z}
 use Rattle.leaves.specs.declared.constant.ConstVal.{ConstVal}
 use Rattle.leaves.specs.declared.constant.ConstVal.TheVariants.{F64}
-use Rattle.leaves.specs.declared.verdict.Verdict.TheVariants.{Value, DivisorZero}
 use Rattle.leaves.specs.Signed.{residue, wrap, is_zero, same_z}
 use Rattle.leaves.specs.Float.{float_of, bits_of, zero_float, ieee_div_f64, div_f64, nonzero, negative, by_zero}
 use Rattle.leaves.proofs.Integers.{less_or-not, sub_pos, sub_neg}
 use Rattle.leaves.proofs.Division as Division
 use Rattle.leaves.proofs.Floats.{above, back, forth}
+use Rattle.std.specs.Prelude.{Ok, Err}
+use Rattle.leaves.specs.declared.verdict.Decline.TheVariants.{DivisorZero}
 
 -- ---- I32: wrap z is the one i32 that is congruent to z modulo 2^32
 
@@ -172,9 +173,9 @@ divided_by_zero (fin r n d) (fin s m e) t = rw (no_digits s m e t) (flipped (eqb
 
 -- sign by sign: of like signs infinity, of unlike ones -infinity; of zero or NaN, NaN
 pub record BySigns (x z : Float) : Type 0 where
-  pub like_signs : nonzero x ≡ true → negative x ≡ negative z → ieee_div_f64 x z ≡ Value (F64 (inf false))
-  pub unlike_signs : nonzero x ≡ true → negative x ≡ not (negative z) → ieee_div_f64 x z ≡ Value (F64 (inf true))
-  pub zero_or_nan : nonzero x ≡ false → ieee_div_f64 x z ≡ Value (F64 nan)
+  pub like_signs : nonzero x ≡ true → negative x ≡ negative z → ieee_div_f64 x z ≡ Ok (F64 (inf false))
+  pub unlike_signs : nonzero x ≡ true → negative x ≡ not (negative z) → ieee_div_f64 x z ≡ Ok (F64 (inf true))
+  pub zero_or_nan : nonzero x ≡ false → ieee_div_f64 x z ≡ Ok (F64 nan)
 
 pub by_signs : (x z : Float) → Ieee.eq z zero_float ≡ true → BySigns x z
 by_signs x z t = record {
@@ -183,8 +184,8 @@ by_signs x z t = record {
   zero_or_nan = λ n. comes (rw n);
 }
   where
-    comes : {q : Float} → by_zero x z ≡ q → ieee_div_f64 x z ≡ Value (F64 q)
-    comes e = ap (λ (y : Float). Value (F64 y)) (divided_by_zero x z t ∙ e)
+    comes : {q : Float} → by_zero x z ≡ q → ieee_div_f64 x z ≡ Ok (F64 q)
+    comes e = ap (λ (y : Float). Ok (F64 y)) (divided_by_zero x z t ∙ e)
 
     alike : (s : Bool) → unlike s s ≡ false
     alike true = refl
@@ -224,10 +225,10 @@ zero_bits n h t = go (float_of n) refl t
         )
 
 -- whatever value the Rust's division has is IEEE 754's
-pub same_quotient : (a b : Float) (v : ConstVal) → div_f64 a b ≡ Value v → ieee_div_f64 a b ≡ Value v
+pub same_quotient : (a b : Float) (v : ConstVal) → div_f64 a b ≡ Ok v → ieee_div_f64 a b ≡ Ok v
 unfolding div_f64
 same_quotient a b v = go (Ieee.eq b zero_float)
   where
-    go : (t : Bool) → cond t DivisorZero (ieee_div_f64 a b) ≡ Value v → ieee_div_f64 a b ≡ Value v
+    go : (t : Bool) → cond t (Err DivisorZero) (ieee_div_f64 a b) ≡ Ok v → ieee_div_f64 a b ≡ Ok v
     go true e = cc
     go false e = e

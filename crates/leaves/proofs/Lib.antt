@@ -1,3 +1,5 @@
+pub mod ByKind
+pub mod Checked
 pub mod Division
 pub mod Floats
 pub mod Integers

@@ -9,11 +9,7 @@ use Rattle.leaves.specs.declared.quad.Quad.{Quad}
 use Rattle.leaves.specs.declared.constant.ConstVal.{ConstVal}
 use Rattle.leaves.specs.declared.constant.ConstVal.TheVariants.{Unknown, Quad as QuadV, Bool as BoolV, F64, I32, U32, Fx}
 use Rattle.leaves.specs.Constants.{on_quad, on_bool, on_f64, on_i32, on_u32, on_fx, is_known}
-use Rattle.leaves.specs.declared.verdict.Verdict.{Verdict}
-use Rattle.leaves.specs.declared.verdict.Verdict.TheVariants.{Value, LeftUnknown, RightUnknown, Unfit, DivisorZero, OutOfRange, NotComputed}
-use Rattle.leaves.specs.Verdicts.{value_in}
 use Rattle.leaves.specs.contracts.constant.ConstVal.{the_type}
-use Rattle.leaves.specs.contracts.verdict.Verdict.{the_type as the-verdict}
 
 has : (ts : List ℕ) (k : ℕ) → OneOf ts k → Dec.T (has_key ts k)
 has ts k h = go (has_key ts k) (λ (t : Dec.T (not (has_key ts k))). miss ts k t h)
@@ -61,13 +57,3 @@ not-fx v f d h = among (λ (v : ConstVal). on_fx v f d) d (0 ∷ 1 ∷ 2 ∷ 3 �
 -- what is left of the values once Unknown is gone
 pub is_known_lem : (v : ConstVal) → OneOf (1 ∷ 2 ∷ 3 ∷ 4 ∷ 5 ∷ 6 ∷ []) (tag_of the_type v) → is_known v ≡ true
 is_known_lem v h = among is_known true (1 ∷ 2 ∷ 3 ∷ 4 ∷ 5 ∷ 6 ∷ []) v h (λ t. absurd t) (λ x t. refl) (λ x t. refl) (λ x t. refl) (λ x t. refl) (λ x t. refl) (λ x t. refl)
-
--- what is left of the verdicts once Value is gone
-pub no_value : (v : Verdict) → OneOf (1 ∷ 2 ∷ 3 ∷ 4 ∷ 5 ∷ 6 ∷ []) (tag_of the-verdict v) → Unknown ≡ value_in v
-no_value (Value x) h = absurd (miss (1 ∷ 2 ∷ 3 ∷ 4 ∷ 5 ∷ 6 ∷ []) 0 tt h)
-no_value LeftUnknown h = refl
-no_value RightUnknown h = refl
-no_value Unfit h = refl
-no_value DivisorZero h = refl
-no_value OutOfRange h = refl
-no_value NotComputed h = refl

@@ -4,8 +4,8 @@ use mathlib.Core.Bool.{beq}
 use lib.Dec as Dec
 use Rattle.leaves.specs.declared.quad.Quad.{Quad}
 use Rattle.leaves.specs.declared.quad.Quad.TheVariants.{N, F, T, S}
-use Rattle.leaves.specs.declared.quad.QuadResult.TheVariants.{Value, Absent}
 use Rattle.leaves.specs.Quads.{told_false, told_true, of_told, Order, every, meet, join, approx_below, truth_below, q_and, q_or, q_not, q_truth_and, q_truth_or, q_truth_not, q_same, quad_of, number_of}
+use Rattle.std.specs.Prelude.{Some, None}
 
 -- ---- a test that passes at all four passes at each
 
@@ -145,14 +145,14 @@ truth-or-told = by-told ◌&&◌ ◌||◌ q_truth_or tt
 -- ---- numbers
 
 -- a quad's number is read back as the quad
-pub quad_numbered : (q : Quad) → quad_of (number_of q) ≡ Value q
+pub quad_numbered : (q : Quad) → quad_of (number_of q) ≡ Some q
 unfolding quad_of
 quad_numbered N = refl
 quad_numbered F = refl
 quad_numbered T = refl
 quad_numbered S = refl
 
-pub not-numbered : (n : ℕ) → 3 < n → quad_of n ≡ Absent
+pub not-numbered : (n : ℕ) → 3 < n → quad_of n ≡ None
 unfolding quad_of
 not-numbered n h = simp (
   ne_eqb n 0 (λ (e : n ≡ 0). omega arith),

@@ -1,14 +1,10 @@
 -- How large a sum, a product or a quotient of signed integers is, and what a test of one says.
-use Rattle.std.proofs.Common.{◌≡◌, ℕ, zero, suc, ◌+◌, ◌-◌, ◌*◌, ◌/◌, ◌<◌, ◌≤◌, Bool, true, false, ◌&&◌, eqb, leb, ℤ, pos, negsuc, ◌+ℤ◌, ◌-ℤ◌, ◌*ℤ◌, neg_ℤ, nat_abs, sym, refl, ap, ◌∙◌, subst, ap₂, ⊎_elim, le_trans, le_of_eq, lt_of_le_of_lt, mul-le-mul, div-le_self, arith, to_z-of_z, w32, w64, SFits, to_z, of_z, ltb-true, eq-eqb, ne_eqb}
-use mathlib.Core.Bool.{and-true}
+use Rattle.std.proofs.Common.{◌≡◌, ℕ, zero, suc, ◌-◌, ◌*◌, ◌/◌, ◌<◌, ◌≤◌, Bool, true, false, eqb, ℤ, pos, negsuc, ◌*ℤ◌, neg_ℤ, nat_abs, sym, refl, ap, ◌∙◌, subst, ap₂, le_trans, le_of_eq, lt_of_le_of_lt, mul-le-mul, div-le_self, arith, to_z-of_z, w32, w64, SFits, to_z, of_z, ltb-true, eq-eqb, ne_eqb}
 use native.Mathlib.Decide.{ℕ_discrete}
-use lib.IntN.{sub_ℕ}
-use lib.Signed.{mag, le_z, quot_z, rem_z, mag_rem}
-use lib.Dec.{leb-suc-suc}
+use lib.Signed.{mag, quot_z, rem_z, mag_rem}
 use mir.Facts.{sfits_widen}
 use Rattle.leaves.specs.declared.constant.ConstVal.{ConstVal}
 use Rattle.leaves.specs.Signed.{in_i32, is_zero, same_z, checked_as}
-use Rattle.leaves.proofs.Integers.{less_or-not, sub_pos, sub_neg}
 
 -- ---- magnitudes
 
@@ -16,18 +12,6 @@ pub abs_neg : (a : ℤ) → nat_abs (neg_ℤ a) ≡ nat_abs a
 abs_neg (pos zero) = refl
 abs_neg (pos (suc n)) = refl
 abs_neg (negsuc n) = refl
-
-abs_sub : (m n : ℕ) → nat_abs (sub_ℕ m n) ≤ m + n
-abs_sub m n = ⊎_elim
-    (λ (l : m < n). rw (sub_neg m n l) (omega arith))
-    (λ (l : n ≤ m). rw (sub_pos m n l) (omega arith))
-    (less_or-not m n)
-
-pub abs_add : (a b : ℤ) → nat_abs (a +ℤ b) ≤ nat_abs a + nat_abs b
-abs_add (pos m) (pos n) = omega arith
-abs_add (pos m) (negsuc n) = abs_sub m (suc n)
-abs_add (negsuc m) (pos n) = omega (arith, abs_sub n (suc m))
-abs_add (negsuc m) (negsuc n) = omega arith
 
 pub abs_mul : (a b : ℤ) → nat_abs (a *ℤ b) ≡ nat_abs a * nat_abs b
 abs_mul (pos m) (pos n) = refl
@@ -52,12 +36,6 @@ pub small : (a : ℤ) → nat_abs a ≤ 4611686018427387904 → SFits w64 a
 small (pos n) h = record { sfits = omega arith }
 small (negsuc n) h = record { sfits = omega arith }
 
-pub sum_small : (a b : ℤ) → SFits w32 a → SFits w32 b → SFits w64 (a +ℤ b)
-sum_small a b h k = small (a +ℤ b) (omega (arith, abs_add a b, abs32 a h, abs32 b k))
-
-pub difference_small : (a b : ℤ) → SFits w32 a → SFits w32 b → SFits w64 (a -ℤ b)
-difference_small a b h k = small (a -ℤ b) (omega (arith, abs_add a (neg_ℤ b), abs_neg b, abs32 a h, abs32 b k))
-
 pub product_small : (a b : ℤ) → nat_abs a ≤ 2147483648 → nat_abs b ≤ 2147483648 → nat_abs (a *ℤ b) ≤ 4611686018427387904
 product_small a b h k = le_trans (le_of_eq (abs_mul a b)) (mul-le-mul h k)
 
@@ -66,9 +44,6 @@ product32 {a} {b} h k = product_small a b (abs32 a h) (abs32 b k)
 
 pub quotient_small : (a b : ℤ) → nat_abs a ≤ 4611686018427387904 → SFits w64 (quot_z a b)
 quotient_small a b h = small (quot_z a b) (le_trans (le_of_eq (abs_quot a b)) (le_trans (div-le_self (nat_abs a) (nat_abs b)) h))
-
-pub quotient32 : (a b : ℤ) → SFits w32 a → SFits w64 (quot_z a b)
-quotient32 a b h = quotient_small a b (omega (arith, abs32 a h))
 
 -- a times a literal, as Fx division has it
 pub scaled_small : (a : ℤ) {k : ℕ} → SFits w32 a → k ≤ 2147483648 → nat_abs (a *ℤ pos k) ≤ 4611686018427387904
@@ -96,10 +71,6 @@ exact kind z y h e = ap (checked_as kind) (to_z-of_z h ∙ e)
 
 -- ---- tests
 
-pub both_tests : (z : ℤ) → (le_z (negsuc 2147483647) z && le_z z (pos 2147483647)) ≡ in_i32 z
-both_tests (pos n) = sym (leb-suc-suc n 2147483647)
-both_tests (negsuc n) = and-true (leb n 2147483647) ∙ sym (leb-suc-suc n 2147483647)
-
 -- what `in_i32` answered of z says of it
 pub in_i32-says : {z : ℤ} {b t : Bool} → SFits w64 z → b ≡ in_i32 (to_z w64 (of_z w64 z)) → b ≡ t → in_i32 z ≡ t
 in_i32-says h e p = ap in_i32 (sym (to_z-of_z h)) ∙ sym e ∙ p
@@ -119,11 +90,6 @@ nonzero_bits (negsuc n) h ne = let k : n < 2147483648 = h.sfits in (ne_eqb (suc 
 -- a divisor at 64 bits, as `wide` gives it
 pub divisor : {b r : ℤ} → SFits w32 b → r ≡ to_z w32 (of_z w32 b) → (of_z w32 b ≡ 0 → ⊥) → 0 < of_z w64 r
 divisor {b} h e ne = subst (λ (x : ℤ). 0 < of_z w64 x) (sym (e ∙ to_z-of_z h)) (nonzero_bits b h ne).2
-
--- a quotient at 64 bits fits
-pub divides : {a b r s : ℤ} → SFits w32 a → SFits w32 b → r ≡ to_z w32 (of_z w32 a) → s ≡ to_z w32 (of_z w32 b) → (of_z w32 b ≡ 0 → ⊥)
-    → (0 < of_z w64 s) × SFits w64 (quot_z (to_z w64 (of_z w64 r)) (to_z w64 (of_z w64 s)))
-divides {a} {b} h k e f ne = (divisor k f ne, subst (SFits w64) (sym (at64 quot_z h k e f)) (quotient32 a b h))
 
 pub rest_fits : (a b : ℤ) → SFits w32 a → SFits w32 (rem_z a b)
 rest_fits a b h = record { sfits = lt_of_le_of_lt (mag_rem a b) h.sfits }

@@ -7,8 +7,6 @@ use lib.Ieee.{Float, nan, inf, fin, binary64}
 use borrow.Author.Tests.{lt-leb}
 use Rattle.leaves.specs.declared.constant.ConstVal.{ConstVal}
 use Rattle.leaves.specs.declared.constant.ConstVal.TheVariants.{F64, I32, U32, Fx}
-use Rattle.leaves.specs.declared.verdict.Verdict.{Verdict}
-use Rattle.leaves.specs.declared.verdict.Verdict.TheVariants.{Value, DivisorZero, OutOfRange}
 use Rattle.leaves.specs.Signed.{wrap, in_i32, is_zero, add_i32, sub_i32, mul_i32, div_i32, mod_i32}
 use Rattle.leaves.specs.Unsigned.{add_u32, sub_u32, mul_u32, div_u32, mod_u32}
 use Rattle.leaves.specs.Fixed.{fx_scale, add_fx, sub_fx, mul_fx, div_fx}
@@ -16,20 +14,23 @@ use Rattle.leaves.specs.Float.{float_of, zero_float, add_f64, sub_f64, mul_f64, 
 use Rattle.leaves.proofs.Integers.{less_or-not}
 use Rattle.leaves.proofs.Division.{in_range_but_one}
 use Rattle.leaves.proofs.Laws.{Truncated, truncated, zero_bits}
+use Rattle.std.specs.Prelude.{Ok, Err}
+use Rattle.leaves.specs.Verdict.{Verdict}
+use Rattle.leaves.specs.declared.verdict.Decline.TheVariants.{DivisorZero, OutOfRange}
 
 -- The whole answer v of a leaf, by two facts of its operands: its divisor is zero, and its exact result lies outside the type. "zero is tested
 -- first". Where neither holds, it is the value x.
 pub record Answers (Zero Outside : Type 0) (x : ConstVal) (v : Verdict) : Type 0 where
-  pub zero_divisor : (v ≡ DivisorZero) ↔ Zero
-  pub out_of_range : (v ≡ OutOfRange) ↔ ((Zero → ⊥) × Outside)
-  pub has_value : (v ≡ Value x) ↔ ((Zero → ⊥) × (Outside → ⊥))
-  pub one_of_three : (v ≡ DivisorZero) ⊎ ((v ≡ OutOfRange) ⊎ (v ≡ Value x))
+  pub zero_divisor : (v ≡ Err DivisorZero) ↔ Zero
+  pub out_of_range : (v ≡ Err OutOfRange) ↔ ((Zero → ⊥) × Outside)
+  pub has_value : (v ≡ Ok x) ↔ ((Zero → ⊥) × (Outside → ⊥))
+  pub one_of_three : (v ≡ Err DivisorZero) ⊎ ((v ≡ Err OutOfRange) ⊎ (v ≡ Ok x))
 
 -- a leaf that neither divides by zero nor leaves its type has a value whatever its operands
 abbrev pub Always : ConstVal → Verdict → Type 0
 Always x v = Answers ⊥ ⊥ x v
 
-pub always : {x : ConstVal} {v : Verdict} → Always x v → v ≡ Value x
+pub always : {x : ConstVal} {v : Verdict} → Always x v → v ≡ Ok x
 always h = h.has_value.1 ((λ (n : ⊥). n), (λ (n : ⊥). n))
 
 -- ---- by tests, the first of which is for zero
@@ -38,23 +39,23 @@ always h = h.has_value.1 ((λ (n : ⊥). n), (λ (n : ⊥). n))
 never : {A : Type 0} → false ≡ true → A
 never e = absurd (false≢true e)
 
-by_tests : (z t : Bool) (x : ConstVal) → Answers (z ≡ true) (t ≡ false) x (cond z DivisorZero (cond t (Value x) OutOfRange))
+by_tests : (z t : Bool) (x : ConstVal) → Answers (z ≡ true) (t ≡ false) x (cond z (Err DivisorZero) (cond t (Ok x) (Err OutOfRange)))
 by_tests true t x = record {
   zero_divisor = ((λ e. refl), (λ e. refl));
-  out_of_range = ((λ (e : DivisorZero ≡ OutOfRange). never cc), (λ p. absurd (p.0 refl)));
-  has_value = ((λ (e : DivisorZero ≡ Value x). never cc), (λ p. absurd (p.0 refl)));
+  out_of_range = ((λ (e : Err DivisorZero ≡ Err OutOfRange). never cc), (λ p. absurd (p.0 refl)));
+  has_value = ((λ (e : Err DivisorZero ≡ Ok x). never cc), (λ p. absurd (p.0 refl)));
   one_of_three = inl refl;
 }
 by_tests false true x = record {
-  zero_divisor = ((λ (e : Value x ≡ DivisorZero). never cc), (λ e. never e));
-  out_of_range = ((λ (e : Value x ≡ OutOfRange). never cc), (λ p. never (sym p.1)));
+  zero_divisor = ((λ (e : Ok x ≡ Err DivisorZero). never cc), (λ e. never e));
+  out_of_range = ((λ (e : Ok x ≡ Err OutOfRange). never cc), (λ p. never (sym p.1)));
   has_value = ((λ e. ((λ n. never n), (λ n. never (sym n)))), (λ p. refl));
   one_of_three = inr (inr refl);
 }
 by_tests false false x = record {
-  zero_divisor = ((λ (e : OutOfRange ≡ DivisorZero). never cc), (λ e. never e));
+  zero_divisor = ((λ (e : Err OutOfRange ≡ Err DivisorZero). never cc), (λ e. never e));
   out_of_range = ((λ e. ((λ n. never n), refl)), (λ p. refl));
-  has_value = ((λ (e : OutOfRange ≡ Value x). never cc), (λ p. absurd (p.1 refl)));
+  has_value = ((λ (e : Err OutOfRange ≡ Ok x). never cc), (λ p. absurd (p.1 refl)));
   one_of_three = inr (inl refl);
 }
 
@@ -80,7 +81,7 @@ undivided = (never, (λ (n : ⊥). absurd n))
 inside : (true ≡ false) ↔ ⊥
 inside = ((λ e. never (sym e)), (λ (n : ⊥). absurd n))
 
-total : (x : ConstVal) → Always x (Value x)
+total : (x : ConstVal) → Always x (Ok x)
 total x = read undivided inside (by_tests false true x)
 
 -- ---- I32
@@ -258,7 +259,7 @@ pub quotient_f64_bits : (a : Float) (n : ℕ) → n < 2 ^ 64
 quotient_f64_bits a n h = read (zero_divisors n h) ((λ (n : ⊥). n), (λ (n : ⊥). n)) (quotient_f64 a (float_of n))
 
 -- a NaN is no zero divisor
-pub by_nan : (a : Float) → div_f64 a nan ≡ Value (F64 nan)
+pub by_nan : (a : Float) → div_f64 a nan ≡ Ok (F64 nan)
 unfolding div_f64 Ieee.eq Ieee.div
 by_nan nan = refl
 by_nan (inf s) = refl

@@ -7,14 +7,15 @@ use lib.Ieee.{Float, binary64}
 use lib.Ieee.Fits.{div-fits}
 use Rattle.leaves.specs.declared.constant.ConstVal.{ConstVal}
 use Rattle.leaves.specs.declared.constant.ConstVal.TheVariants.{Unknown, Quad as QuadV, Bool as BoolV, F64, I32, U32, Fx}
-use Rattle.leaves.specs.declared.verdict.Verdict.{Verdict}
-use Rattle.leaves.specs.declared.verdict.Verdict.TheVariants.{Value, LeftUnknown, RightUnknown, Unfit, DivisorZero, OutOfRange, NotComputed}
 use Rattle.leaves.specs.Signed.{in_i32, is_zero, checked_as, add_i32, sub_i32, mul_i32, div_i32, mod_i32}
 use Rattle.leaves.specs.Unsigned.{checked_u32, add_u32, sub_u32, mul_u32, div_u32, mod_u32}
 use Rattle.leaves.specs.Fixed.{fx_scale, add_fx, sub_fx, mul_fx, div_fx}
 use Rattle.leaves.specs.Float.{zero_float, ieee_div_f64, div_f64}
 use Rattle.leaves.proofs.Ranges.{sfits_in, rest_fits}
 use Rattle.leaves.proofs.Laws.{wrap_fits}
+use Rattle.std.specs.Prelude.{Ok, Err}
+use Rattle.leaves.specs.Verdict.{Verdict}
+use Rattle.leaves.specs.declared.verdict.Decline.TheVariants.{LeftUnknown, RightUnknown, Unfit, DivisorZero, OutOfRange, NotComputed}
 
 abbrev pub Typed : ConstVal → Type 0
 Typed Unknown = Unit {0}
@@ -26,19 +27,19 @@ Typed (U32 n) = n < 2 ^ 32
 Typed (Fx z) = SFits w32 z
 
 abbrev pub TypedResult : Verdict → Type 0
-TypedResult (Value v) = Typed v
-TypedResult LeftUnknown = Unit {0}
-TypedResult RightUnknown = Unit {0}
-TypedResult Unfit = Unit {0}
-TypedResult DivisorZero = Unit {0}
-TypedResult OutOfRange = Unit {0}
-TypedResult NotComputed = Unit {0}
+TypedResult (Ok v) = Typed v
+TypedResult (Err LeftUnknown) = Unit {0}
+TypedResult (Err RightUnknown) = Unit {0}
+TypedResult (Err Unfit) = Unit {0}
+TypedResult (Err DivisorZero) = Unit {0}
+TypedResult (Err OutOfRange) = Unit {0}
+TypedResult (Err NotComputed) = Unit {0}
 
-none_or : (t : Bool) (v : Verdict) → TypedResult v → TypedResult (cond t DivisorZero v)
+none_or : (t : Bool) (v : Verdict) → TypedResult v → TypedResult (cond t (Err DivisorZero) v)
 none_or true v h = tt
 none_or false v h = h
 
-or-none : (t : Bool) (v : ConstVal) → (t ≡ true → Typed v) → TypedResult (cond t (Value v) OutOfRange)
+or-none : (t : Bool) (v : ConstVal) → (t ≡ true → Typed v) → TypedResult (cond t (Ok v) (Err OutOfRange))
 or-none true v h = h refl
 or-none false v h = tt
 
@@ -62,7 +63,7 @@ div_i32_fits a b = none_or (is_zero b) (checked_as I32 (quot_z a b)) (or-none (i
 
 pub mod_i32_fits : (a b : ℤ) → SFits w32 a → TypedResult (mod_i32 a b)
 unfolding mod_i32
-mod_i32_fits a b h = none_or (is_zero b) (cond (in_i32 (quot_z a b)) (Value (I32 (rem_z a b))) OutOfRange) (or-none (in_i32 (quot_z a b)) (I32 (rem_z a b)) (λ t. rest_fits a b h))
+mod_i32_fits a b h = none_or (is_zero b) (cond (in_i32 (quot_z a b)) (Ok (I32 (rem_z a b))) (Err OutOfRange)) (or-none (in_i32 (quot_z a b)) (I32 (rem_z a b)) (λ t. rest_fits a b h))
 
 -- ---- Fx
 
@@ -104,11 +105,11 @@ mul_u32_fits a b = checked_u32_fits (a * b)
 
 pub div_u32_fits : (a b : ℕ) → a < 2 ^ 32 → TypedResult (div_u32 a b)
 unfolding div_u32
-div_u32_fits a b h = none_or (eqb b 0) (Value (U32 (a / b))) (lt_of_le_of_lt (div-le_self a b) h)
+div_u32_fits a b h = none_or (eqb b 0) (Ok (U32 (a / b))) (lt_of_le_of_lt (div-le_self a b) h)
 
 pub mod_u32_fits : (a b : ℕ) → a < 2 ^ 32 → TypedResult (mod_u32 a b)
 unfolding mod_u32
-mod_u32_fits a b h = none_or (eqb b 0) (Value (U32 (a % b))) (lt_of_le_of_lt (mod-le a b) h)
+mod_u32_fits a b h = none_or (eqb b 0) (Ok (U32 (a % b))) (lt_of_le_of_lt (mod-le a b) h)
 
 -- ---- f64: a sum, a difference and a product fit by lib.Ieee.Fits
 

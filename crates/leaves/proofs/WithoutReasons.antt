@@ -6,36 +6,37 @@ use lib.Ieee as Ieee
 use lib.Ieee.{Float}
 use Rattle.leaves.specs.declared.constant.ConstVal.{ConstVal}
 use Rattle.leaves.specs.declared.constant.ConstVal.TheVariants.{F64, I32, U32, Fx}
-use Rattle.leaves.specs.declared.verdict.Verdict.{Verdict}
-use Rattle.leaves.specs.declared.verdict.Verdict.TheVariants.{Value, LeftUnknown, RightUnknown, Unfit, DivisorZero, OutOfRange, NotComputed}
 use Rattle.leaves.specs.Signed.{in_i32, is_zero, div_i32, mod_i32}
 use Rattle.leaves.specs.Unsigned.{add_u32, sub_u32, mul_u32, div_u32, mod_u32}
 use Rattle.leaves.specs.Fixed.{fx_scale, add_fx, sub_fx, mul_fx, div_fx}
 use Rattle.leaves.specs.Float.{zero_float, ieee_div_f64, div_f64}
+use Rattle.std.specs.Prelude.{Ok, Err}
+use Rattle.leaves.specs.Verdict.{Verdict}
+use Rattle.leaves.specs.declared.verdict.Decline.TheVariants.{LeftUnknown, RightUnknown, Unfit, DivisorZero, OutOfRange, NotComputed}
 
 -- the one answer that stood for both reasons. The verdict has no case of that name any more: one of the two stands for it
 abbrev pub NoResult : Verdict
-NoResult = OutOfRange
+NoResult = Err OutOfRange
 
 abbrev pub without_reason : Verdict → Verdict
-without_reason (Value v) = Value v
-without_reason LeftUnknown = LeftUnknown
-without_reason RightUnknown = RightUnknown
-without_reason Unfit = Unfit
-without_reason DivisorZero = NoResult
-without_reason OutOfRange = NoResult
-without_reason NotComputed = NotComputed
+without_reason (Ok v) = Ok v
+without_reason (Err LeftUnknown) = Err LeftUnknown
+without_reason (Err RightUnknown) = Err RightUnknown
+without_reason (Err Unfit) = Err Unfit
+without_reason (Err DivisorZero) = NoResult
+without_reason (Err OutOfRange) = NoResult
+without_reason (Err NotComputed) = Err NotComputed
 
 -- ---- as they were
 
 abbrev checked_as₀ : (ℤ → ConstVal) → ℤ → Verdict
-checked_as₀ kind z = cond (in_i32 z) (Value (kind z)) NoResult
+checked_as₀ kind z = cond (in_i32 z) (Ok (kind z)) NoResult
 
 abbrev pub div_i32₀ : ℤ → ℤ → Verdict
 div_i32₀ a b = cond (is_zero b) NoResult (checked_as₀ I32 (quot_z a b))
 
 abbrev pub mod_i32₀ : ℤ → ℤ → Verdict
-mod_i32₀ a b = cond (is_zero b) NoResult (cond (in_i32 (quot_z a b)) (Value (I32 (rem_z a b))) NoResult)
+mod_i32₀ a b = cond (is_zero b) NoResult (cond (in_i32 (quot_z a b)) (Ok (I32 (rem_z a b))) NoResult)
 
 abbrev pub add_fx₀ : ℤ → ℤ → Verdict
 add_fx₀ a b = checked_as₀ Fx (a +ℤ b)
@@ -50,29 +51,29 @@ abbrev pub div_fx₀ : ℤ → ℤ → Verdict
 div_fx₀ a b = cond (is_zero b) NoResult (checked_as₀ Fx (quot_z (a *ℤ fx_scale) b))
 
 abbrev checked_u32₀ : ℕ → Verdict
-checked_u32₀ n = cond (ltb n (2 ^ 32)) (Value (U32 n)) NoResult
+checked_u32₀ n = cond (ltb n (2 ^ 32)) (Ok (U32 n)) NoResult
 
 abbrev pub add_u32₀ : ℕ → ℕ → Verdict
 add_u32₀ a b = checked_u32₀ (a + b)
 
 abbrev pub sub_u32₀ : ℕ → ℕ → Verdict
-sub_u32₀ a b = cond (leb b a) (Value (U32 (a - b))) NoResult
+sub_u32₀ a b = cond (leb b a) (Ok (U32 (a - b))) NoResult
 
 abbrev pub mul_u32₀ : ℕ → ℕ → Verdict
 mul_u32₀ a b = checked_u32₀ (a * b)
 
 abbrev pub div_u32₀ : ℕ → ℕ → Verdict
-div_u32₀ a b = cond (eqb b 0) NoResult (Value (U32 (a / b)))
+div_u32₀ a b = cond (eqb b 0) NoResult (Ok (U32 (a / b)))
 
 abbrev pub mod_u32₀ : ℕ → ℕ → Verdict
-mod_u32₀ a b = cond (eqb b 0) NoResult (Value (U32 (a % b)))
+mod_u32₀ a b = cond (eqb b 0) NoResult (Ok (U32 (a % b)))
 
 abbrev pub div_f64₀ : Float → Float → Verdict
 div_f64₀ a b = cond (Ieee.eq b zero_float) NoResult (ieee_div_f64 a b)
 
 -- ---- and are, but for the reason
 
-by_tests : (z t : Bool) (x : ConstVal) → without_reason (cond z DivisorZero (cond t (Value x) OutOfRange)) ≡ cond z NoResult (cond t (Value x) NoResult)
+by_tests : (z t : Bool) (x : ConstVal) → without_reason (cond z (Err DivisorZero) (cond t (Ok x) (Err OutOfRange))) ≡ cond z NoResult (cond t (Ok x) NoResult)
 by_tests true t x = refl
 by_tests false true x = refl
 by_tests false false x = refl

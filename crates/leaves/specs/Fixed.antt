@@ -2,11 +2,11 @@
 -- Nothing overflows on the way (the document's i64 is wide enough); none has a result outside i32 or for divisor 0. Which of the
 -- two it is, the answer says (document 02, W5).
 --
-use Rattle.std.specs.Prelude.{cond, ℤ, pos, ◌+ℤ◌, ◌-ℤ◌, ◌*ℤ◌, int_div}
+use Rattle.std.specs.Prelude.{cond, ℤ, pos, ◌+ℤ◌, ◌-ℤ◌, ◌*ℤ◌, int_div, Err}
 use Rattle.leaves.specs.declared.constant.ConstVal.TheVariants.{Fx}
-use Rattle.leaves.specs.declared.verdict.Verdict.{Verdict}
-use Rattle.leaves.specs.declared.verdict.Verdict.TheVariants.{DivisorZero}
 use Rattle.leaves.specs.Signed.{is_zero, checked_as}
+use Rattle.leaves.specs.Verdict.{Verdict}
+use Rattle.leaves.specs.declared.verdict.Decline.TheVariants.{DivisorZero}
 
 -- one, in thousandths
 abbrev pub fx_scale : ℤ
@@ -25,4 +25,4 @@ mul_fx a b = checked_as Fx (int_div (a *ℤ b) fx_scale)
 
 -- "zero is tested first"
 unfoldable pub div_fx : ℤ → ℤ → Verdict
-div_fx a b = cond (is_zero b) DivisorZero (checked_as Fx (int_div (a *ℤ fx_scale) b))
+div_fx a b = cond (is_zero b) (Err DivisorZero) (checked_as Fx (int_div (a *ℤ fx_scale) b))

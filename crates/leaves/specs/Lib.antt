@@ -6,3 +6,4 @@ pub mod Quads
 pub mod Constants
 pub mod Verdicts
 pub mod Cases
+pub mod Verdict

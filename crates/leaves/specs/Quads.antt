@@ -1,12 +1,10 @@
 -- Promise: the quad leaves: Belnap's four values in the approximation order (document 01, module 2, Quad and equality leaves) and in the truth order
 -- (document 02, W2). A quad is what has been told: nothing (N), false (F), true (T), or both (S).
 --
-use Rattle.std.specs.Prelude.{ℕ, Bool, true, false, cond, not, ◌&&◌, ◌||◌, ◌==◌}
+use Rattle.std.specs.Prelude.{ℕ, Bool, true, false, cond, not, ◌&&◌, ◌||◌, ◌==◌, Option, Some, None}
 use Rattle.std.specs.Bool.{beq}
 use Rattle.leaves.specs.declared.quad.Quad.{Quad}
 use Rattle.leaves.specs.declared.quad.Quad.TheVariants.{N, F, T, S}
-use Rattle.leaves.specs.declared.quad.QuadResult.{QuadResult}
-use Rattle.leaves.specs.declared.quad.QuadResult.TheVariants.{Value, Absent}
 
 -- whether a quad has been told false, and whether it has been told true
 abbrev pub told_false : Quad → Bool
@@ -132,5 +130,5 @@ abbrev pub q_same : Quad → Quad → Bool
 q_same a b = beq (told_false a) (told_false b) && beq (told_true a) (told_true b)
 
 -- the quad of a number; no number above 3 has one
-unfoldable pub quad_of : ℕ → QuadResult
-quad_of n = cond (n == 0) (Value N) (cond (n == 1) (Value F) (cond (n == 2) (Value T) (cond (n == 3) (Value S) Absent)))
+unfoldable pub quad_of : ℕ → Option Quad
+quad_of n = cond (n == 0) (Some N) (cond (n == 1) (Some F) (cond (n == 2) (Some T) (cond (n == 3) (Some S) None)))

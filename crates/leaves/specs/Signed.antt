@@ -2,14 +2,14 @@
 -- Add, subtract and multiply wrap modulo 2^32; division truncates toward zero, and the remainder goes with it.
 -- Document 02, W5: "Each arithmetic leaf answers a value, "divisor zero" or "out of range"; zero is tested first."
 --
-use Rattle.std.specs.Prelude.{ℕ, suc, ◌-◌, ◌%◌, ◌^◌, Bool, false, cond, ℤ, pos, negsuc, ◌+ℤ◌, ◌-ℤ◌, ◌*ℤ◌, ◌==◌, int_div, int_rem, nat_lt, unsigned_abs}
+use Rattle.std.specs.Prelude.{ℕ, suc, ◌-◌, ◌%◌, ◌^◌, Bool, false, cond, ℤ, pos, negsuc, ◌+ℤ◌, ◌-ℤ◌, ◌*ℤ◌, ◌==◌, int_div, int_rem, nat_lt, unsigned_abs, Ok, Err}
 use Rattle.std.specs.Int.Signed.{mag}
 use Rattle.std.specs.Int.{w32}
 use Rattle.std.proofs.Common.{to_z}
 use Rattle.leaves.specs.declared.constant.ConstVal.{ConstVal}
 use Rattle.leaves.specs.declared.constant.ConstVal.TheVariants.{I32}
-use Rattle.leaves.specs.declared.verdict.Verdict.{Verdict}
-use Rattle.leaves.specs.declared.verdict.Verdict.TheVariants.{Value, DivisorZero, OutOfRange}
+use Rattle.leaves.specs.Verdict.{Verdict}
+use Rattle.leaves.specs.declared.verdict.Decline.TheVariants.{DivisorZero, OutOfRange}
 
 -- the residue of z modulo m, from 0 to m - 1
 unfoldable pub residue : ℤ → ℕ → ℕ
@@ -37,22 +37,22 @@ same_z (negsuc m) (negsuc n) = m == n
 
 -- z as a value of a kind, or out of range outside i32
 abbrev pub checked_as : (ℤ → ConstVal) → ℤ → Verdict
-checked_as kind z = cond (in_i32 z) (Value (kind z)) OutOfRange
+checked_as kind z = cond (in_i32 z) (Ok (kind z)) (Err OutOfRange)
 
 -- "I32 add, subtract and multiply wrap modulo 2^32"
 unfoldable pub add_i32 : ℤ → ℤ → Verdict
-add_i32 a b = Value (I32 (wrap (a +ℤ b)))
+add_i32 a b = Ok (I32 (wrap (a +ℤ b)))
 
 unfoldable pub sub_i32 : ℤ → ℤ → Verdict
-sub_i32 a b = Value (I32 (wrap (a -ℤ b)))
+sub_i32 a b = Ok (I32 (wrap (a -ℤ b)))
 
 unfoldable pub mul_i32 : ℤ → ℤ → Verdict
-mul_i32 a b = Value (I32 (wrap (a *ℤ b)))
+mul_i32 a b = Ok (I32 (wrap (a *ℤ b)))
 
 -- "truncates toward zero; it has no result for divisor 0 or for -2,147,483,648 by -1", whose quotient alone is outside i32
 unfoldable pub div_i32 : ℤ → ℤ → Verdict
-div_i32 a b = cond (is_zero b) DivisorZero (checked_as I32 (int_div a b))
+div_i32 a b = cond (is_zero b) (Err DivisorZero) (checked_as I32 (int_div a b))
 
 -- "and neither has the remainder": out of range where the quotient is, though it would be 0 there
 unfoldable pub mod_i32 : ℤ → ℤ → Verdict
-mod_i32 a b = cond (is_zero b) DivisorZero (cond (in_i32 (int_div a b)) (Value (I32 (int_rem a b))) OutOfRange)
+mod_i32 a b = cond (is_zero b) (Err DivisorZero) (cond (in_i32 (int_div a b)) (Ok (I32 (int_rem a b))) (Err OutOfRange))

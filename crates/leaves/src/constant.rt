@@ -2,10 +2,10 @@
 ghost use Rattle.std.specs.Prelude.{◌≡◌};
 ghost use Rattle.leaves.specs.Constants.{const_eq};
 
-use crate::compare::{eq_f64, eq_i32};
-use crate::quad::{Quad, same};
+use crate::quad::Quad;
 
-// Unknown stands first: it is what a table of these holds at the start.
+// Unknown stands first: it is what a table of these holds at the start. It is a variant and no Option around the others, whose own tag would make
+// each entry of the table larger.
 #[derive(Clone, Copy)]
 pub enum ConstVal {
     Unknown,
@@ -17,47 +17,17 @@ pub enum ConstVal {
     Fx(i32),
 }
 
-// Values of two kinds differ; floats are compared as IEEE 754 does. An unknown value equals none.
+// Values of two kinds differ; floats are compared as IEEE 754 does. An unknown value equals none, itself included: so this is no derived `==`.
 pub fn const_eq(a: ConstVal, b: ConstVal) -> bool
     ensures { result ≡ const_eq a b }
 {
-    match a {
-        ConstVal::Unknown => false,
-        ConstVal::Quad(x) => {
-            let ConstVal::Quad(y) = b else {
-                return false;
-            };
-            same(x, y)
-        }
-        ConstVal::Bool(x) => {
-            let ConstVal::Bool(y) = b else {
-                return false;
-            };
-            x == y
-        }
-        ConstVal::F64(x) => {
-            let ConstVal::F64(y) = b else {
-                return false;
-            };
-            eq_f64(x, y)
-        }
-        ConstVal::I32(x) => {
-            let ConstVal::I32(y) = b else {
-                return false;
-            };
-            eq_i32(x, y)
-        }
-        ConstVal::U32(x) => {
-            let ConstVal::U32(y) = b else {
-                return false;
-            };
-            x == y
-        }
-        ConstVal::Fx(x) => {
-            let ConstVal::Fx(y) = b else {
-                return false;
-            };
-            eq_i32(x, y)
-        }
+    match (a, b) {
+        (ConstVal::Quad(x), ConstVal::Quad(y)) => x == y,
+        (ConstVal::Bool(x), ConstVal::Bool(y)) => x == y,
+        (ConstVal::F64(x), ConstVal::F64(y)) => x == y,
+        (ConstVal::I32(x), ConstVal::I32(y)) => x == y,
+        (ConstVal::U32(x), ConstVal::U32(y)) => x == y,
+        (ConstVal::Fx(x), ConstVal::Fx(y)) => x == y,
+        _ => false,
     }
 }

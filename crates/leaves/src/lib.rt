@@ -1,7 +1,6 @@
 // The number, quad and equality leaves of CrystalFold: total functions, each equal to its definition in specs/.
 #![tactic(auto)]
 
-pub mod compare;
 pub mod constant;
 pub mod fixed;
 pub mod float;

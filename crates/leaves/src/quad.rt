@@ -1,20 +1,13 @@
 // Quad leaves. A quad is what has been told: nothing (N), false (F), true (T) or both (S).
-ghost use Rattle.std.specs.Prelude.{◌≡◌};
-ghost use Rattle.leaves.specs.Quads.{told_false, told_true, of_told, q_and, q_or, q_not, q_impl, q_truth_and, q_truth_or, q_truth_not, q_truth_impl, q_same, quad_of, number_of};
+ghost use Rattle.std.specs.Prelude.{◌≡◌, ok_or};
+ghost use Rattle.leaves.specs.Quads.{told_false, told_true, of_told, q_and, q_or, q_not, q_impl, q_truth_and, q_truth_or, q_truth_not, q_truth_impl, quad_of, number_of};
 
-#[derive(Clone, Copy)]
+#[derive(Clone, Copy, PartialEq, Eq)]
 pub enum Quad {
     N,
     F,
     T,
     S,
-}
-
-// What a number read as a quad answers.
-#[derive(Clone, Copy)]
-pub enum QuadResult {
-    Value(Quad),
-    Absent,
 }
 
 // In the approximation order less told is below: what both, or either, have been told.
@@ -67,69 +60,59 @@ pub fn qtruth_impl(a: Quad, b: Quad) -> Quad
     qtruth_or(qtruth_not(a), b)
 }
 
-pub fn same(a: Quad, b: Quad) -> bool
-    ensures { result ≡ q_same a b }
-{
-    (told_false(a) == told_false(b)) & (told_true(a) == told_true(b))
-}
+// A number that no quad has.
+#[derive(Clone, Copy, PartialEq, Eq)]
+pub struct NoQuad(pub u8);
 
 // The quad of a number: N 0, F 1, T 2, S 3; no other number has one.
-pub fn quad_of(n: u8) -> QuadResult
-    ensures { result ≡ quad_of n }
-{
-    match n {
-        0 => QuadResult::Value(Quad::N),
-        1 => QuadResult::Value(Quad::F),
-        2 => QuadResult::Value(Quad::T),
-        3 => QuadResult::Value(Quad::S),
-        _ => QuadResult::Absent,
+impl TryFrom<u8> for Quad {
+    type Error = NoQuad;
+
+    ghost try_from_gives = { λ n r. r ≡ ok_or (quad_of n) (record { 0 = n }) };
+
+    fn try_from(n: u8) -> Result<Quad, NoQuad> {
+        match n {
+            0 => Ok(Quad::N),
+            1 => Ok(Quad::F),
+            2 => Ok(Quad::T),
+            3 => Ok(Quad::S),
+            _ => Err(NoQuad(n)),
+        }
     }
 }
 
-pub fn number_of(q: Quad) -> u8
-    ensures { result ≡ number_of q }
-{
-    match q {
-        Quad::N => 0,
-        Quad::F => 1,
-        Quad::T => 2,
-        Quad::S => 3,
+impl From<Quad> for u8 {
+    ghost from_gives = { λ q n. n ≡ number_of q };
+
+    fn from(q: Quad) -> u8 {
+        match q {
+            Quad::N => 0,
+            Quad::F => 1,
+            Quad::T => 2,
+            Quad::S => 3,
+        }
     }
 }
 
 fn told_false(q: Quad) -> bool
     ensures { result ≡ told_false q }
 {
-    match q {
-        Quad::N => false,
-        Quad::F => true,
-        Quad::T => false,
-        Quad::S => true,
-    }
+    matches!(q, Quad::F | Quad::S)
 }
 
 fn told_true(q: Quad) -> bool
     ensures { result ≡ told_true q }
 {
-    match q {
-        Quad::N => false,
-        Quad::F => false,
-        Quad::T => true,
-        Quad::S => true,
-    }
+    matches!(q, Quad::T | Quad::S)
 }
 
 fn of_told(f: bool, t: bool) -> Quad
     ensures { result ≡ of_told f t }
 {
-    if f {
-        if t {
-            return Quad::S;
-        }
-        return Quad::F;
+    match (f, t) {
+        (false, false) => Quad::N,
+        (true, false) => Quad::F,
+        (false, true) => Quad::T,
+        (true, true) => Quad::S,
     }
-    if t {
-        return Quad::T;
-    }
-    Quad::N
 }

@@ -1,14 +1,16 @@
 -- Bytes as hexadecimal digits, and the lines of cells, written one after another.
 use mathlib.Core.Path.{◌≡◌, refl, sym, ◌∙◌, ap, ap₂}
 use mathlib.Core.List.{List, [], ◌∷◌, ◌++◌, append_assoc, append-nil, head-eq_of_cons-eq, tail-eq_of_cons-eq}
-use Prim.Native.Nat.{ℕ, ◌+◌, ◌*◌, ◌/◌, ◌%◌, ◌≤◌, ◌<◌}
+use Prim.Native.Nat.{ℕ, zero, suc, ◌+◌, ◌*◌, ◌/◌, ◌%◌, ◌≤◌, ◌<◌}
 use native.Mathlib.Numerals.{add-one}
 use native.Mathlib.Omega.{arith}
 use borrow.Author.Tests.{ltb-true, ltb-false, lt-ltb, le-ltb}
 use lib.Dec.{ltb}
-use lib.ListN.{length, get_or, set, take, length-append}
+use lib.ListN.{length, get_or, set, take, drop, length-append}
 use lib.Seq.{take-suc, take_all}
-use Rattle.cells.specs.Cells.{Cell, Full, cells, cell_at}
+use Rattle.std.proofs.lemmas.List.{get_or_default}
+use Rattle.std.specs.Simd.{first_chunks}
+use Rattle.cells.specs.Cells.{Cell, Full, chunks, cells, cell_at}
 use Rattle.cells.proofs.Cells.{length-cells, cell_at_lem}
 use Rattle.cells.proofs.Facts.{by_test}
 use Rattle.listing.specs.Text.{hex_digit, hex, cell_line, cell_lines, line_feed}
@@ -64,6 +66,17 @@ length_lines (c ∷ cs) f = omega (arith, length-append (cell_line c) (cell_line
 lines_snoc : (cs : List Cell) (c : Cell) → cell_lines (cs ++ c ∷ []) ≡ cell_lines cs ++ cell_line c
 lines_snoc [] c = append-nil (cell_line c)
 lines_snoc (d ∷ cs) c = ap (λ (t : List ℕ). cell_line d ++ t) (lines_snoc cs c) ∙ sym (append_assoc (cell_line d) (cell_lines cs) (cell_line c))
+
+-- a slice cut into arrays of 16 bytes has the cells
+whole_cells : (k : ℕ) (s : List ℕ) → first_chunks 16 k s ≡ chunks k s
+whole_cells zero s = refl
+whole_cells (suc k) s = ap (λ (cs : List Cell). take 16 s ∷ cs) (whole_cells k (drop 16 s))
+
+pub whole_cell : (s : List ℕ) {whole : List Cell} (d : Cell) (i : ℕ) → whole ≡ first_chunks 16 (length s / 16) s → i < length whole → get_or whole i d ≡ cell_at s i
+whole_cell s {whole} d i e h =
+    let w : whole ≡ cells s = e ∙ whole_cells (length s / 16) s in
+    let l : i < length (cells s) = rw (← w) h in
+    rw w (get_or_default (cells s) i d [] l ∙ cell_at_lem s i (omega (arith, length-cells s)))
 
 -- one more byte of a cell, as two digits
 pub written-hex : (start c : List ℕ) (i : ℕ) {before after : List ℕ} {at : ℕ} → TextWritten (start ++ hex (take i c)) before after at → i < length c → at + 1 < length before

@@ -10,10 +10,10 @@ use Rattle.cells.proofs.Cells.{length-cells, full_cells}
 use Rattle.listing.specs.Decimal.{digit, decimal}
 use Rattle.listing.specs.Text.{line_feed, cell_lines, field, rewrites_line, rewritten_text, refused_text}
 use Rattle.listing.specs.Promises.{listed, listed_over, Listing, TextWritten}
-use Rattle.listing.specs.declared.Listed.TheVariants.{Text, TooShort}
 use Rattle.listing.proofs.Numerals.{decimal-one, length-one, length-decimal}
 use Rattle.listing.proofs.Pieces.{written_start, written_byte}
 use Rattle.listing.proofs.Lines.{length_lines}
+use Rattle.std.specs.Prelude.{Some, None}
 
 -- the numeral of a number below 10, written at a position
 pub written_digit : (s : List ℕ) (at n d : ℕ) → n < 10 → d ≡ digit (n % 10) → at + length (decimal n) ≤ length s → TextWritten (take at s ++ decimal n) s (set s at d) (at + 1)
@@ -38,10 +38,10 @@ unfolding rewritten_text
 length_rewritten s count = omega (arith, length-append (cell_lines (cells s)) (rewrites_line count), length_lines (cells s) (full_cells s), length-cells s)
 
 module _ (text before : List ℕ) where
-  pub listing_short : length before < length text → Listing text before before TooShort
+  pub listing_short : length before < length text → Listing text before before None
   unfolding listed listed_over
   listing_short h = record { answer = rw (lt-leb (length text) (length before) h); bytes = rw (lt-leb (length text) (length before) h) }
 
-  pub listing_whole : {after : List ℕ} {r : ℕ} → length text ≤ length before → TextWritten text before after r → Listing text before after (Text r)
+  pub listing_whole : {after : List ℕ} {r : ℕ} → length text ≤ length before → TextWritten text before after r → Listing text before after (Some r)
   unfolding listed listed_over
-  listing_whole h w = record { answer = rw (le-leb (length text) (length before) h) (ap Text w.end); bytes = rw (le-leb (length text) (length before) h) w.bytes }
+  listing_whole h w = record { answer = rw (le-leb (length text) (length before) h) (ap Some w.end); bytes = rw (le-leb (length text) (length before) h) w.bytes }

@@ -1,13 +1,12 @@
 -- Worked: texts: document 01's printed example, the empty image, refusals, and a check's answers; texts and numbers in a number of places.
-use Rattle.std.specs.Prelude.{◌≡◌, refl, List, [], ◌∷◌, ◌++◌, map, ℕ, replicate}
+use Rattle.std.specs.Prelude.{◌≡◌, refl, List, [], ◌∷◌, ◌++◌, map, ℕ, replicate, Ok, Err}
 use Rattle.cells.specs.Assembler.{Head, LoadI32, Ret}
 use Rattle.cells.specs.Cells.{Cell}
-use Rattle.cells.specs.declared.refusal.Checked.{Checked}
-use Rattle.cells.specs.declared.refusal.Checked.TheVariants.{Good, Refused}
 use Rattle.cells.specs.declared.refusal.Refusal.TheVariants.{UnknownCommand, ActivationSitesDiffer}
 use Rattle.listing.specs.Decimal.{decimal}
 use Rattle.listing.specs.Places.{ascii, fill, fill_left, digits, place_of}
 use Rattle.listing.specs.Text.{rewrites_line, rewritten_text, refused_text, refusal_text, good_text, checked_text}
+use Rattle.cells.specs.Checked.{Checked}
 
 -- what is printed: cells and a count, a refusal's number, position and detail, or a check's answer
 pub data Printed : Type 0 where
@@ -54,15 +53,15 @@ cases =
       text = 114 ∷ 101 ∷ 102 ∷ 117 ∷ 115 ∷ 101 ∷ 100 ∷ 32 ∷ 50 ∷ 54 ∷ 32 ∷ 50 ∷ 32 ∷ 52 ∷ 50 ∷ 57 ∷ 52 ∷ 57 ∷ 54 ∷ 55 ∷ 50 ∷ 57 ∷ 53 ∷ 10 ∷ [];
     }
     -- a check that passes: `good`
-    ∷ record { printed = checked Good; text = 103 ∷ 111 ∷ 111 ∷ 100 ∷ 10 ∷ [] }
+    ∷ record { printed = checked (Ok tt); text = 103 ∷ 111 ∷ 111 ∷ 100 ∷ 10 ∷ [] }
     -- a command that is none, the third function's cell 12: `refused 3 2 12`
     ∷ record {
-      printed = checked (Refused (UnknownCommand 2 12));
+      printed = checked (Err (UnknownCommand 2 12));
       text = 114 ∷ 101 ∷ 102 ∷ 117 ∷ 115 ∷ 101 ∷ 100 ∷ 32 ∷ 51 ∷ 32 ∷ 50 ∷ 32 ∷ 49 ∷ 50 ∷ 10 ∷ [];
     }
     -- sets of activation sites that differ have no detail: `refused 14 4095 0`
     ∷ record {
-      printed = checked (Refused (ActivationSitesDiffer 4095));
+      printed = checked (Err (ActivationSitesDiffer 4095));
       text = 114 ∷ 101 ∷ 102 ∷ 117 ∷ 115 ∷ 101 ∷ 100 ∷ 32 ∷ 49 ∷ 52 ∷ 32 ∷ 52 ∷ 48 ∷ 57 ∷ 53 ∷ 32 ∷ 48 ∷ 10 ∷ [];
     }
     ∷ []

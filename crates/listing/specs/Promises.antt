@@ -1,18 +1,16 @@
 -- Promise: what the functions that write text promise: the answer, and every byte of the lent buffer.
-use Rattle.std.specs.Prelude.{◌≡◌, cond, List, ℕ, leb, length}
+use Rattle.std.specs.Prelude.{◌≡◌, cond, List, ℕ, leb, length, Option, Some, None}
 use Rattle.cells.specs.Cells.{over}
-use Rattle.listing.specs.declared.Listed.{Listed}
-use Rattle.listing.specs.declared.Listed.TheVariants.{Text, TooShort}
 
 -- a text into a buffer of that many bytes
-unfoldable pub listed : List ℕ → ℕ → Listed
-listed text room = cond (leb (length text) room) (Text (length text)) TooShort
+unfoldable pub listed : List ℕ → ℕ → Option ℕ
+listed text room = cond (leb (length text) room) (Some (length text)) None
 
 -- the buffer afterwards: the text over its start, or as it was
 unfoldable pub listed_over : List ℕ → List ℕ → List ℕ
 listed_over text before = cond (leb (length text) (length before)) (over text before) before
 
-pub record Listing (text before after : List ℕ) (r : Listed) : Type 0 where
+pub record Listing (text before after : List ℕ) (r : Option ℕ) : Type 0 where
   pub answer : r ≡ listed text (length before)
   pub bytes : after ≡ listed_over text before
 

@@ -1,11 +1,10 @@
 -- Promise: the text that the printing program writes (document 01, 'Cells on either edge', the last paragraph), byte by byte, in ASCII.
-use Rattle.std.specs.Prelude.{cond, List, [], ◌∷◌, ◌++◌, ℕ, ◌+◌, ◌/◌, ◌%◌, ltb}
+use Rattle.std.specs.Prelude.{cond, List, [], ◌∷◌, ◌++◌, ℕ, ◌+◌, ◌/◌, ◌%◌, ltb, Ok, Err}
 use Rattle.cells.specs.Cells.{Cell}
 use Rattle.cells.specs.Refusals.{numbers_of}
-use Rattle.cells.specs.declared.refusal.Checked.{Checked}
-use Rattle.cells.specs.declared.refusal.Checked.TheVariants.{Good, Refused}
 use Rattle.cells.specs.declared.refusal.Refusal.{Refusal}
 use Rattle.listing.specs.Decimal.{decimal}
+use Rattle.cells.specs.Checked.{Checked}
 
 abbrev pub line_feed : ℕ
 line_feed = 10
@@ -61,5 +60,5 @@ unfoldable pub good_text : List ℕ
 good_text = 103 ∷ 111 ∷ 111 ∷ 100 ∷ line_feed ∷ []
 
 abbrev pub checked_text : Checked → List ℕ
-checked_text Good = good_text
-checked_text (Refused x) = refusal_text x
+checked_text (Ok tt) = good_text
+checked_text (Err x) = refusal_text x

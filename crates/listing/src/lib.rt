@@ -5,18 +5,13 @@ ghost use Rattle.std.specs.Prelude.{◌≡◌, ◌++◌, ◌+◌, ◌*◌, ◌/�
 ghost use Rattle.cells.specs.Cells.{cells as «cells_of», over};
 ghost use Rattle.listing.specs.Decimal.{digit as «digit_of», decimal};
 ghost use Rattle.listing.specs.Places.{place_of};
-ghost use Rattle.listing.specs.Text.{hex_digit, hex, cell_line, cell_lines, field, rewrites_line, rewritten_text, refused_text, good_text, checked_text};
+ghost use Rattle.listing.specs.Text.{hex_digit, hex, cell_line, cell_lines, field, rewrites_line, rewritten_text, refused_text, checked_text};
 ghost use Rattle.listing.specs.Promises.{Listing, TextWritten};
 
-use cells::read::{CELL, wide};
-use cells::refusal::{Checked, Numbers, numbers_of};
+use cells::read::CELL;
+use cells::refusal::{Numbers, Refusal};
 
-// A text of so many bytes stands at the start of the buffer; or the buffer is too short for it, and is as it was.
-#[derive(Clone, Copy)]
-pub enum Listed {
-    Text(usize),
-    TooShort,
-}
+// Each `list_` function writes a text at the start of the buffer and answers how many bytes it has; or the buffer is too short for it, and is as it was.
 
 // Bytes of a cell's line: two digits a byte, and a line feed.
 const LINE: usize = 33;
@@ -26,69 +21,69 @@ const COUNT_LINE: usize = 30;
 
 const REFUSED_LINE: usize = 71;
 
-// Bytes of the line of a check that refused nothing.
-const GOOD_LINE: usize = 5;
-
 // The text of an accepted image: its cells, and the number of rewrites. Bytes behind the last whole cell are left out.
-pub fn list_rewritten(cells: &[u8], rewrites: usize, text: &mut [u8]) -> Listed
+pub fn list_rewritten(cells: &[u8], rewrites: usize, text: &mut [u8]) -> Option<usize>
     ensures { Listing (rewritten_text (cells_of cells.now) rewrites) text.old text.new result }
 {
     let mut line = [0u8; COUNT_LINE];
     let m = put_rewrites(rewrites, &mut line);
     let n = cells.len() / CELL;
     if text.len() / LINE < n {
-        return Listed::TooShort;
+        return None;
     }
     let lines = LINE * n;
     if text.len() - lines < m {
-        return Listed::TooShort;
+        return None;
     }
     let at = put_cells(cells, text);
-    Listed::Text(append(&line[..m], text, at))
+    Some(append(&line[..m], text, at))
 }
 
 // The text of a refusal.
-pub fn list_refused(r: Numbers, text: &mut [u8]) -> Listed
+pub fn list_refused(r: Numbers, text: &mut [u8]) -> Option<usize>
     ensures { Listing (refused_text r.number r.position r.detail) text.old text.new result }
 {
     let mut line = [0u8; REFUSED_LINE];
-    let n = put_refused(r.number, r.position, r.detail, &mut line);
-    if text.len() < n {
-        return Listed::TooShort;
-    }
-    Listed::Text(append(&line[..n], text, 0))
+    let n = put_refused(r, &mut line);
+    list_line(&line[..n], text)
 }
 
 // The text of a check's answer.
-pub fn list_checked(r: Checked, text: &mut [u8]) -> Listed
+pub fn list_checked(r: Result<(), Refusal>, text: &mut [u8]) -> Option<usize>
     ensures { Listing (checked_text r) text.old text.new result }
 {
     match r {
-        Checked::Good => list_good(text),
-        Checked::Refused(x) => list_refused(numbers_of(x), text),
+        Ok(()) => list_line(
+            b"good
+",
+            text,
+        ),
+        Err(x) => list_refused(Numbers::from(x), text),
     }
 }
 
-fn list_good(text: &mut [u8]) -> Listed
-    ensures { Listing good_text text.old text.new result }
+// A line put together elsewhere.
+fn list_line(line: &[u8], text: &mut [u8]) -> Option<usize>
+    ensures { Listing line.now text.old text.new result }
 {
-    if text.len() < GOOD_LINE {
-        return Listed::TooShort;
+    if text.len() < line.len() {
+        return None;
     }
-    Listed::Text(append(b"good\n", text, 0))
+    Some(append(line, text, 0))
 }
 
-// Each function below that takes `at` writes its piece there, and answers the position behind it; the others write at the start.
+// Each function below that takes `at` writes its piece there, and answers the position behind it; the others write at the start. (A cursor that
+// holds the buffer and the position is no plainer: each contract would name the two in it, and the one who lends the buffer takes it back.)
 
 // The line of a refusal.
-pub fn put_refused(number: usize, position: usize, detail: usize, line: &mut [u8]) -> usize
+pub fn put_refused(r: Numbers, line: &mut [u8]) -> usize
     requires { 71 ≤ length line.old }
-    ensures { TextWritten (refused_text number position detail) line.old line.new result }
+    ensures { TextWritten (refused_text r.number r.position r.detail) line.old line.new result }
 {
     let a = append(b"refused ", line, 0);
-    let b = put_field(number, b' ', line, a);
-    let c = put_field(position, b' ', line, b);
-    put_field(detail, b'\n', line, c)
+    let b = put_field(r.number, b' ', line, a);
+    let c = put_field(r.position, b' ', line, b);
+    put_field(r.detail, b'\n', line, c)
 }
 
 // The line of a count.
@@ -115,20 +110,16 @@ fn put_cells(cells: &[u8], text: &mut [u8]) -> usize
     requires { 33 * (length cells.now / 16) ≤ length text.old }
     ensures { TextWritten (cell_lines (cells_of cells.now)) text.old text.new result }
 {
-    let n = cells.len() / CELL;
+    let (whole, _) = cells.as_chunks::<CELL>();
     let mut at: usize = 0;
-    let mut i: usize = 0;
-    while i < n {
-        let a = CELL * i;
-        let b = a + CELL;
-        i += 1;
-        at = put_line(&cells[a..b], text, at);
+    for cell in whole {
+        at = put_line(cell, text, at);
     }
     at
 }
 
-fn put_line(cell: &[u8], text: &mut [u8], at: usize) -> usize
-    requires { (length cell.now ≡ 16) × (at + 33 ≤ length text.old) }
+fn put_line(cell: &[u8; CELL], text: &mut [u8], at: usize) -> usize
+    requires { at + 33 ≤ length text.old }
     ensures { TextWritten (take at text.old ++ cell_line cell.now) text.old text.new result }
 {
     let k = put_hex(cell, text, at);
@@ -176,13 +167,10 @@ pub fn put_hex(bytes: &[u8], text: &mut [u8], at: usize) -> usize
     ensures { TextWritten (take at text.old ++ hex bytes.now) text.old text.new result }
 {
     let mut k = at;
-    let mut i: usize = 0;
-    while i < bytes.len() {
-        let b = wide(bytes[i]);
+    for &b in bytes {
         text[k] = hex_digit(b / 16);
         text[k + 1] = hex_digit(b % 16);
         k += 2;
-        i += 1;
     }
     k
 }
@@ -195,13 +183,9 @@ pub fn append(piece: &[u8], text: &mut [u8], at: usize) -> usize
     at + cells::buffer::copy(piece, &mut text[at..])
 }
 
-fn hex_digit(d: usize) -> u8
+fn hex_digit(d: u8) -> u8
     requires { d < 16 }
     ensures { result ≡ hex_digit d }
 {
-    if d < 10 {
-        b'0' + d as u8
-    } else {
-        b'A' - 10 + d as u8
-    }
+    if d < 10 { b'0' + d } else { b'A' - 10 + d }
 }

@@ -1,8 +1,8 @@
 -- Document 02's W4 of the run itself: what DivF64 comes to by either zero, and that no DivF64 is without a result.
+use Rattle.std.specs.Prelude.{Some}
 use mathlib.Core.Path.{◌≡◌, refl, ap}
 use mathlib.Core.Logic.{◌⊎◌, inl, inr}
 use mathlib.Core.Bool.{true}
-use mathlib.Core.Option.{some}
 use Prim.Native.Nat.{ℕ}
 use lib.Ieee as Ieee
 use Rattle.leaves.specs.declared.constant.ConstVal.{ConstVal}
@@ -34,7 +34,7 @@ computes-or_unfit a b = go (operand a) (operand b)
     other_left_lem : (r : ConstVal) → Computes (outcome unfit (declined_right r))
     other_left_lem r = inr (by_test (is_known r) (λ t. rw t) (λ t. rw t))
 
-    go : (l r : ConstVal) → Computes (outcome unfit (evaluate (some (two_f64 ieee_div_f64)) l r))
+    go : (l r : ConstVal) → Computes (outcome unfit (evaluate (Some (two_f64 ieee_div_f64)) l r))
     go (F64 x) (F64 y) = inl (f64 (bits_of (Ieee.div Ieee.binary64 x y)), refl)
     go (F64 x) Unknown = inr refl
     go (F64 x) (QuadV y) = inr refl

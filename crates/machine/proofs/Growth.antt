@@ -1,7 +1,7 @@
 -- A record only grows, so two records of one run are equal when they are equally long: claim 3 follows from claim 2. `SameRecords` is
 -- reflexive and transitive.
+use Rattle.std.specs.Prelude.{Option, None, Some}
 use mathlib.Core.Path.{◌≡◌, refl, sym, ◌∙◌, ap}
-use mathlib.Core.Option.{Option, none, some}
 use mathlib.Core.List.{List, [], ◌∷◌, ◌++◌, append-nil, append_assoc}
 use Prim.Native.Nat.{ℕ, suc, ◌≤◌}
 use native.Mathlib.Omega.{arith}
@@ -26,8 +26,8 @@ fall_extends [] r h = (_, refl)
 fall_extends (i ∷ p) r h = extends_refl h
 
 goto_extends : (a : Option (List Ins)) (r : Regs) (h : List Entry) → Extends h (record_of (goto a r h))
-goto_extends none r h = (_, refl)
-goto_extends (some p) r h = fall_extends p r h
+goto_extends None r h = (_, refl)
+goto_extends (Some p) r h = fall_extends p r h
 
 reply_extends : (a : Answer) (d : Option ℕ) (p : List Ins) (r : Regs) (h : List Entry) → Extends h (record_of (reply a d p r h))
 reply_extends stop d p r h = (_, refl)

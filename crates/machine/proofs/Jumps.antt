@@ -1,6 +1,7 @@
 -- What a jump finds, and the sweeps over what the cells are.
+use Rattle.std.specs.Prelude.{Option, None, Some, option_map}
+use Rattle.std.proofs.lemmas.Option.{same_Some}
 use mathlib.Core.Path.{◌≡◌, refl, ap}
-use mathlib.Core.Option.{Option, none, some, map, some-injective}
 use mathlib.Core.List.{List, [], ◌∷◌, ◌++◌}
 use Prim.Native.Nat.{ℕ}
 use Rattle.cells.specs.Ins.{Ins, label_of, alike}
@@ -14,18 +15,18 @@ abbrev pub plain : Ins → Ins
 plain i = i
 
 -- where a pass moves with the jumps, they stay related
-pub both-map : (ρ : Rel) (r : Regs) (f : List Ins → List Ins) (a : Option (List Ins)) → ((p : List Ins) → a ≡ some p → ρ p r (f p) r) → Both ρ r a (map f a)
-both-map ρ r f none x = tt
-both-map ρ r f (some p) x = x p refl
+pub both-map : (ρ : Rel) (r : Regs) (f : List Ins → List Ins) (a : Option (List Ins)) → ((p : List Ins) → a ≡ Some p → ρ p r (f p) r) → Both ρ r a (option_map f a)
+both-map ρ r f None x = tt
+both-map ρ r f (Some p) x = x p refl
 
 -- a jump goes to cells of the function's own end
-pub seek_end : (l : ℕ) (P p : List Ins) → seek l P ≡ some p → (a : List Ins) × (P ≡ a ++ p)
+pub seek_end : (l : ℕ) (P p : List Ins) → seek l P ≡ Some p → (a : List Ins) × (P ≡ a ++ p)
 seek_end l [] p e = ([], cc)
-seek_end l (i ∷ P) p e = by_test (alike (some l) (label_of i))
-    (λ y. ([], some-injective (i ∷ P) p (rw y at e)))
+seek_end l (i ∷ P) p e = by_test (alike (Some l) (label_of i))
+    (λ y. ([], same_Some (i ∷ P) p (rw y at e)))
     (λ y. let (a, x) = seek_end l P p (rw y at e) in (i ∷ a, ap (◌∷◌ i) x))
 
 -- a label does nothing
-pub exec_label : (i : Ins) (l : ℕ) (r : Regs) → label_of i ≡ some l → exec i r ≡ on r
+pub exec_label : (i : Ins) (l : ℕ) (r : Regs) → label_of i ≡ Some l → exec i r ≡ on r
 unfolding exec
 exec_label i l r e = rw (label_is i l e)

@@ -1,8 +1,8 @@
 -- The general simulation lemma. A relation between what P and Q still have to run gives `SameRecords P Q` if it holds at the start, at jumps,
 -- and after each step: both step, or P steps, Q stays and less lies ahead of P.
+use Rattle.std.specs.Prelude.{Option, None, Some}
 use mathlib.Core.Path.{◌≡◌, refl, sym, ap}
 use mathlib.Core.Logic.{◌⊎◌, inl, inr}
-use mathlib.Core.Option.{Option, none, some}
 use mathlib.Core.List.{List, [], ◌∷◌, ◌++◌, head-eq_of_cons-eq, tail-eq_of_cons-eq}
 use Prim.Native.Nat.{ℕ, zero, suc, ◌≤◌, ◌<◌}
 use native.Mathlib.Omega.{arith}
@@ -26,10 +26,10 @@ Rel = List Ins → Regs → List Ins → Regs → Type 0
 
 -- where a jump comes to in P and in Q, with the same registers: nowhere in both, or to related cells
 abbrev pub Both : Rel → Regs → Option (List Ins) → Option (List Ins) → Type 0
-Both ρ r none none = Unit {0}
-Both ρ r none (some q) = ⊥
-Both ρ r (some p) none = ⊥
-Both ρ r (some p) (some q) = ρ p r q r
+Both ρ r None None = Unit {0}
+Both ρ r None (Some q) = ⊥
+Both ρ r (Some p) None = ⊥
+Both ρ r (Some p) (Some q) = ρ p r q r
 
 -- two states with one record: both about to run related cells, or both ended
 abbrev pub Related : Rel → State → State → Type 0
@@ -66,10 +66,10 @@ module _ (P Q : List Ins) (ρ : Rel) (σ : Simulation P Q ρ) (O : Outside) wher
   fall_related (i ∷ p) r (j ∷ q) s h x = (x, refl)
 
   goto_related : (a b : Option (List Ins)) (r : Regs) (h : List Entry) → Both ρ r a b → Related ρ (goto a r h) (goto b r h)
-  goto_related none none r h x = refl
-  goto_related none (some q) r h x = absurd x
-  goto_related (some p) none r h x = absurd x
-  goto_related (some p) (some q) r h x = fall_related p r q r h x
+  goto_related None None r h x = refl
+  goto_related None (Some q) r h x = absurd x
+  goto_related (Some p) None r h x = absurd x
+  goto_related (Some p) (Some q) r h x = fall_related p r q r h x
 
   reply_related : (a : Answer) (d : Option ℕ) (p q : List Ins) (r : Regs) (h : List Entry) → ((v : Value) → ρ p (put d v r) q (put d v r)) → Related ρ (reply a d p r h) (reply a d q r h)
   reply_related stop d p q r h x = refl

@@ -2,8 +2,6 @@
 -- same. And the one evaluator hands a leaf's answer on as it is, its reason with it.
 use mathlib.Core.Path.{◌≡◌, refl, ap, ap₂, ◌∙◌, fun_ext}
 use mathlib.Core.Bool.{Bool}
-use mathlib.Core.Option
-use mathlib.Core.Option.{Option, none, some}
 use mathlib.Core.List.{List, [], ◌∷◌, map}
 use Prim.Native.Nat.{ℕ}
 use lib.Dec.{eqb}
@@ -12,8 +10,6 @@ use lib.Ieee.{Float}
 use Rattle.leaves.specs.declared.quad.Quad.{Quad}
 use Rattle.leaves.specs.declared.constant.ConstVal.{ConstVal}
 use Rattle.leaves.specs.declared.constant.ConstVal.TheVariants.{Unknown, Quad as QuadV, Bool as BoolV, F64, I32, U32, Fx}
-use Rattle.leaves.specs.declared.verdict.Verdict.{Verdict}
-use Rattle.leaves.specs.declared.verdict.Verdict.TheVariants.{Value, LeftUnknown, RightUnknown, Unfit, DivisorZero, OutOfRange, NotComputed}
 use Rattle.leaves.specs.Constants.{by_kind, on_quad, on_bool, on_f64, on_i32, on_u32, on_fx, is_known}
 use Rattle.leaves.specs.Verdicts.{if_known}
 use Rattle.leaves.specs.Signed.{div_i32, mod_i32}
@@ -25,14 +21,17 @@ use Rattle.cells.proofs.Facts.{by_test}
 use Rattle.machine.specs.Values.{Value as Held, operand}
 use Rattle.machine.specs.Evaluate.{Meaning, two_i32, two_u32, two_fx, two_f64, two_bool, two_quad, equality, fitting, evaluate, Means, means, look_up}
 use Rattle.machine.specs.Compute.{meaning, Outcome, at_other, outcome, compute}
+use Rattle.std.specs.Prelude.{Ok, Err, Option, None, Some, option_map}
+use Rattle.leaves.specs.Verdict.{Verdict}
+use Rattle.leaves.specs.declared.verdict.Decline.TheVariants.{LeftUnknown, RightUnknown, Unfit, DivisorZero, OutOfRange, NotComputed}
 
 -- ---- of two operands of a command's kind the verdict is what its leaf answers
 
 pub record Carried (f : ℤ → ℤ → Verdict) (n : ℕ → ℕ → Verdict) (x : Float → Float → Verdict) : Type 0 where
-  pub i32 : (a b : ℤ) → evaluate (some (two_i32 f)) (I32 a) (I32 b) ≡ f a b
-  pub fx : (a b : ℤ) → evaluate (some (two_fx f)) (Fx a) (Fx b) ≡ f a b
-  pub u32 : (a b : ℕ) → evaluate (some (two_u32 n)) (U32 a) (U32 b) ≡ n a b
-  pub f64 : (a b : Float) → evaluate (some (two_f64 x)) (F64 a) (F64 b) ≡ x a b
+  pub i32 : (a b : ℤ) → evaluate (Some (two_i32 f)) (I32 a) (I32 b) ≡ f a b
+  pub fx : (a b : ℤ) → evaluate (Some (two_fx f)) (Fx a) (Fx b) ≡ f a b
+  pub u32 : (a b : ℕ) → evaluate (Some (two_u32 n)) (U32 a) (U32 b) ≡ n a b
+  pub f64 : (a b : Float) → evaluate (Some (two_f64 x)) (F64 a) (F64 b) ≡ x a b
 
 pub carried : (f : ℤ → ℤ → Verdict) (n : ℕ → ℕ → Verdict) (x : Float → Float → Verdict) → Carried f n x
 carried f n x = record { i32 = λ a b. refl; fx = λ a b. refl; u32 = λ a b. refl; f64 = λ a b. refl }
@@ -87,14 +86,14 @@ as_before = record {
 abbrev pub rows_without : List Means → List Means
 rows_without ms = map (λ (m : Means). means m.command (without_reasons m.meaning)) ms
 
-pub looked_up : (o : ℕ) (ms : List Means) → look_up o (rows_without ms) ≡ Option.map without_reasons (look_up o ms)
+pub looked_up : (o : ℕ) (ms : List Means) → look_up o (rows_without ms) ≡ option_map without_reasons (look_up o ms)
 looked_up o [] = refl
 looked_up o (m ∷ ms) = by_test (eqb o m.command) (λ y. rw y) (λ y. rw y (looked_up o ms))
 
 -- a value taken apart, then the reason left out
 apart : (q : Quad → Verdict) (b : Bool → Verdict) (f : Float → Verdict) (i : ℤ → Verdict) (n : ℕ → Verdict) (z : ℤ → Verdict) (v : ConstVal)
-    → by_kind Unfit (λ x. without_reason (q x)) (λ x. without_reason (b x)) (λ x. without_reason (f x)) (λ x. without_reason (i x)) (λ x. without_reason (n x)) (λ x. without_reason (z x)) v
-    ≡ without_reason (by_kind Unfit q b f i n z v)
+    → by_kind (Err Unfit) (λ x. without_reason (q x)) (λ x. without_reason (b x)) (λ x. without_reason (f x)) (λ x. without_reason (i x)) (λ x. without_reason (n x)) (λ x. without_reason (z x)) v
+    ≡ without_reason (by_kind (Err Unfit) q b f i n z v)
 apart q b f i n z Unknown = refl
 apart q b f i n z (QuadV x) = refl
 apart q b f i n z (BoolV x) = refl
@@ -105,13 +104,13 @@ apart q b f i n z (Fx x) = refl
 
 -- both operands taken apart by one kind
 module _ {A : Type 0} (on : ConstVal → (A → Verdict) → Verdict → Verdict)
-    (natural : (f : A → Verdict) (v : ConstVal) → on v (λ x. without_reason (f x)) Unfit ≡ without_reason (on v f Unfit)) where
+    (natural : (f : A → Verdict) (v : ConstVal) → on v (λ x. without_reason (f x)) (Err Unfit) ≡ without_reason (on v f (Err Unfit))) where
   both : (f : A → A → Verdict) (l r : ConstVal)
-      → on l (λ (a : A). on r (λ (b : A). without_reason (f a b)) Unfit) Unfit ≡ without_reason (on l (λ (a : A). on r (f a) Unfit) Unfit)
-  both f l r = ap (λ (g : A → Verdict). on l g Unfit) (fun_ext λ a. natural (f a) r) ∙ natural (λ (a : A). on r (f a) Unfit) l
+      → on l (λ (a : A). on r (λ (b : A). without_reason (f a b)) (Err Unfit)) (Err Unfit) ≡ without_reason (on l (λ (a : A). on r (f a) (Err Unfit)) (Err Unfit))
+  both f l r = ap (λ (g : A → Verdict). on l g (Err Unfit)) (fun_ext λ a. natural (f a) r) ∙ natural (λ (a : A). on r (f a) (Err Unfit)) l
 
 abbrev unfit_at : {A : Type 0} → A → Verdict
-unfit_at x = Unfit
+unfit_at x = Err Unfit
 
 fitted : (m : Meaning) (l r : ConstVal) → fitting (without_reasons m) l r ≡ without_reason (fitting m l r)
 fitted (two_i32 f) l r = both on_i32 (λ g v. apart unfit_at unfit_at unfit_at g unfit_at unfit_at v) f l r
@@ -122,38 +121,38 @@ fitted (two_bool f) l r = both on_bool (λ g v. apart unfit_at g unfit_at unfit_
 fitted (two_quad f) l r = both on_quad (λ g v. apart g unfit_at unfit_at unfit_at unfit_at unfit_at v) f l r
 fitted (equality n) l r = refl
 
-pub evaluated : (m : Option Meaning) (l r : ConstVal) → evaluate (Option.map without_reasons m) l r ≡ without_reason (evaluate m l r)
-evaluated none l r = refl
-evaluated (some m) l r = ap (if_known l r) (fitted m l r) ∙ by_test (is_known l)
+pub evaluated : (m : Option Meaning) (l r : ConstVal) → evaluate (option_map without_reasons m) l r ≡ without_reason (evaluate m l r)
+evaluated None l r = refl
+evaluated (Some m) l r = ap (if_known l r) (fitted m l r) ∙ by_test (is_known l)
     (λ y. by_test (is_known r) (λ z. rw (y, z)) (λ z. rw (y, z)))
     (λ y. rw y)
 
 -- ---- the run
 
 outcome_without : (x : Outcome) (v : Verdict) → outcome x (without_reason v) ≡ outcome x v
-outcome_without x (Value v) = refl
-outcome_without x LeftUnknown = refl
-outcome_without x RightUnknown = refl
-outcome_without x Unfit = refl
-outcome_without x DivisorZero = refl
-outcome_without x OutOfRange = refl
-outcome_without x NotComputed = refl
+outcome_without x (Ok v) = refl
+outcome_without x (Err LeftUnknown) = refl
+outcome_without x (Err RightUnknown) = refl
+outcome_without x (Err Unfit) = refl
+outcome_without x (Err DivisorZero) = refl
+outcome_without x (Err OutOfRange) = refl
+outcome_without x (Err NotComputed) = refl
 
-other_without : (m : Option Meaning) → at_other (Option.map without_reasons m) ≡ at_other m
-other_without none = refl
-other_without (some (two_i32 f)) = refl
-other_without (some (two_u32 f)) = refl
-other_without (some (two_fx f)) = refl
-other_without (some (two_f64 f)) = refl
-other_without (some (two_bool f)) = refl
-other_without (some (two_quad f)) = refl
-other_without (some (equality n)) = refl
+other_without : (m : Option Meaning) → at_other (option_map without_reasons m) ≡ at_other m
+other_without None = refl
+other_without (Some (two_i32 f)) = refl
+other_without (Some (two_u32 f)) = refl
+other_without (Some (two_fx f)) = refl
+other_without (Some (two_f64 f)) = refl
+other_without (Some (two_bool f)) = refl
+other_without (Some (two_quad f)) = refl
+other_without (Some (equality n)) = refl
 
 -- what the command o comes to by a meaning, as `compute` has it
 abbrev pub comes_to : Option Meaning → Held → Held → Outcome
 comes_to m a b = outcome (at_other m) (evaluate m (operand a) (operand b))
 
-pub computed : (o : ℕ) (a b : Held) → comes_to (Option.map without_reasons (meaning o)) a b ≡ compute o a b
+pub computed : (o : ℕ) (a b : Held) → comes_to (option_map without_reasons (meaning o)) a b ≡ compute o a b
 unfolding compute
 computed o a b =
     let m = meaning o in

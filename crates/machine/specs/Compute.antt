@@ -2,12 +2,9 @@
 -- arithmetic and quad commands of modules 1 and 2 are computed", each through its leaf's definition (leaves/specs). And document 02, W2: "When a
 -- function runs, these four become computed commands", the truth-order quads; and W4: "The interpreter makers now follow IEEE 754", so that DivF64
 -- by either zero, which ended a run in document 01, has a result.
-use Rattle.std.specs.Prelude.{Bool, ◌&&◌, ◌||◌, not, List, [], ◌∷◌, ℕ, ltb, leb}
-use Rattle.std.proofs.Math.Option.{Option, none, some}
+use Rattle.std.specs.Prelude.{Bool, ◌&&◌, ◌||◌, not, List, [], ◌∷◌, ℕ, ltb, leb, Ok, Err, Option, None, Some}
 use Rattle.std.specs.Int.Signed.{lt_z, le_z}
 use Rattle.leaves.specs.declared.quad.Quad.{Quad}
-use Rattle.leaves.specs.declared.verdict.Verdict.{Verdict}
-use Rattle.leaves.specs.declared.verdict.Verdict.TheVariants.{Value, LeftUnknown, RightUnknown, Unfit, DivisorZero, OutOfRange, NotComputed}
 use Rattle.leaves.specs.Float.{add_f64, sub_f64, mul_f64, ieee_div_f64}
 use Rattle.leaves.specs.Signed.{add_i32, sub_i32, mul_i32, div_i32, mod_i32}
 use Rattle.leaves.specs.Unsigned.{add_u32, sub_u32, mul_u32, div_u32, mod_u32}
@@ -16,6 +13,8 @@ use Rattle.leaves.specs.Quads.{q_and, q_or, q_not, q_impl, q_truth_and, q_truth_
 use Rattle.cells.specs.Ins.{Const}
 use Rattle.machine.specs.Values.{Value as Held, operand, written_of}
 use Rattle.machine.specs.Evaluate.{Meaning, two_i32, two_u32, two_fx, two_f64, two_bool, two_quad, equality, i32_test, u32_test, bools, quads, Means, means, look_up, evaluate}
+use Rattle.leaves.specs.Verdict.{Verdict}
+use Rattle.leaves.specs.declared.verdict.Decline.TheVariants.{LeftUnknown, RightUnknown, Unfit, DivisorZero, OutOfRange, NotComputed}
 
 -- the 35 computed commands
 unfoldable pub meanings : List Means
@@ -70,29 +69,29 @@ pub data Outcome : Type 0 where
 
 -- a result by its bits, "NaN bits as in module 1": 7FF8000000000000
 abbrev pub result : Option Const → Outcome
-result none = nothing
-result (some k) = value k
+result None = nothing
+result (Some k) = value k
 
 -- an "other" operand, which no command knows: of a wrong kind; but "CmpEq and CmpNe with an "other" operand are outside actions"
 abbrev pub at_other : Option Meaning → Outcome
-at_other none = outside
-at_other (some (two_i32 f)) = unfit
-at_other (some (two_u32 f)) = unfit
-at_other (some (two_fx f)) = unfit
-at_other (some (two_f64 f)) = unfit
-at_other (some (two_bool f)) = unfit
-at_other (some (two_quad f)) = unfit
-at_other (some (equality n)) = outside
+at_other None = outside
+at_other (Some (two_i32 f)) = unfit
+at_other (Some (two_u32 f)) = unfit
+at_other (Some (two_fx f)) = unfit
+at_other (Some (two_f64 f)) = unfit
+at_other (Some (two_bool f)) = unfit
+at_other (Some (two_quad f)) = unfit
+at_other (Some (equality n)) = outside
 
 -- what a verdict comes to, x being what an "other" operand does. Whichever reason there is against a result, the run ends by one cause, "no result"
 abbrev pub outcome : Outcome → Verdict → Outcome
-outcome x (Value v) = result (written_of v)
-outcome x LeftUnknown = x
-outcome x RightUnknown = x
-outcome x Unfit = unfit
-outcome x DivisorZero = nothing
-outcome x OutOfRange = nothing
-outcome x NotComputed = outside
+outcome x (Ok v) = result (written_of v)
+outcome x (Err LeftUnknown) = x
+outcome x (Err RightUnknown) = x
+outcome x (Err Unfit) = unfit
+outcome x (Err DivisorZero) = nothing
+outcome x (Err OutOfRange) = nothing
+outcome x (Err NotComputed) = outside
 
 -- the command o at two operands
 unfoldable pub compute : ℕ → Held → Held → Outcome

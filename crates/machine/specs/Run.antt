@@ -1,7 +1,6 @@
 -- Promise: how a function runs (document 01, 'How a function runs'; its sentences stand in quotes). "Only instruction cells are run": a function is here
 -- the list of what its instruction cells are. A position is the list of cells still to run, since no record shows a position.
-use Rattle.std.specs.Prelude.{cond, List, [], ◌∷◌, ◌++◌, ℕ, zero, suc}
-use Rattle.std.proofs.Math.Option.{Option, none, some}
+use Rattle.std.specs.Prelude.{cond, List, [], ◌∷◌, ◌++◌, ℕ, zero, suc, Option, None, Some}
 use Rattle.cells.specs.Cells.{Cell}
 use Rattle.cells.specs.Ins.{quad, bool, f64, i32, u32, fx, Ins, load, comp, label, jmp, jmp_if, ret, act, label_of, alike}
 use Rattle.machine.specs.Values.{Value, con, other, Regs, set, put, shown}
@@ -59,13 +58,13 @@ fall (i ∷ p) r h = live i p r h
 
 -- "Jmp goes to the first label of that name": the cells from there on, so that the Label is the next step
 abbrev pub seek : ℕ → List Ins → Option (List Ins)
-seek l [] = none
-seek l (i ∷ p) = cond (alike (some l) (label_of i)) (some (i ∷ p)) (seek l p)
+seek l [] = None
+seek l (i ∷ p) = cond (alike (Some l) (label_of i)) (Some (i ∷ p)) (seek l p)
 
 -- "a missing label [..] finish[es] the run"
 abbrev pub goto : Option (List Ins) → Regs → List Entry → State
-goto none r h = finish missing_label r h
-goto (some p) r h = fall p r h
+goto None r h = finish missing_label r h
+goto (Some p) r h = fall p r h
 
 -- after the outside's answer: a stop ends the run; else dst takes the value, where there is one, and "other registers stay"
 abbrev pub reply : Answer → Option ℕ → List Ins → Regs → List Entry → State
@@ -77,7 +76,7 @@ abbrev pub outcome_move : Cell → ℕ → Outcome → Regs → Move
 outcome_move c d (value v) r = on (set d (con v) r)
 outcome_move c d unfit r = halt unfit_operand
 outcome_move c d nothing r = halt no_result
-outcome_move c d outside r = ask c (some d)
+outcome_move c d outside r = ask c (Some d)
 
 -- "JmpIf needs a bool and goes if true"
 abbrev pub branch_move : ℕ → Value → Regs → Move

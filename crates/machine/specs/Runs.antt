@@ -1,7 +1,6 @@
 -- Worked: runs: short functions whose records are written out by hand from document 01, 'How a function runs', and document 02, W2, W4 and W7. One
 -- table, and one theorem of all its rows: every cause of an end, every kind of move, and each of the 81 commands.
-use Rattle.std.specs.Prelude.{◌≡◌, refl, true, false, cond, List, [], ◌∷◌, ◌++◌, map, ℕ, zero, suc, ◌-◌, eqb, ltb, length}
-use Rattle.std.proofs.Math.Option.{none, some}
+use Rattle.std.specs.Prelude.{◌≡◌, refl, true, false, cond, List, [], ◌∷◌, ◌++◌, map, ℕ, zero, suc, ◌-◌, eqb, ltb, length, None, Some}
 use Rattle.std.specs.Float.Ieee as Ieee
 use Rattle.leaves.specs.declared.quad.Quad.TheVariants.{N, F, T, S}
 use Rattle.leaves.specs.Signed.{wrap, add_i32, sub_i32, mul_i32, div_i32, mod_i32}
@@ -137,7 +136,7 @@ runs =
     (ended last_cell (con (i32 2) ∷ untouched 1 1022 ++ (con (i32 5) ∷ [])) ∷ [])
     ∷ worked (LoadBool 1023 1 ∷ JmpIf 1023 3 ∷ RetNothing ∷ Label 3 ∷ []) stops 3 (ended last_cell (last_holding (con (bool true))) ∷ [])
     -- as an optional src
-    ∷ worked (LoadBool 1023 0 ∷ Ret 1023 ∷ []) stops 2 (ended (returned (some 1023)) (last_holding (con (bool false))) ∷ [])
+    ∷ worked (LoadBool 1023 0 ∷ Ret 1023 ∷ []) stops 2 (ended (returned (Some 1023)) (last_holding (con (bool false))) ∷ [])
     -- 255, 256 and 1,023 hold three values; 1 and 257 are two registers, as are 255 and 511, whose low bytes are the same
     ∷ worked (LoadI32 255 1 ∷ LoadI32 256 2 ∷ LoadI32 1023 3 ∷ []) stops 3
     (ended last_cell (untouched 0 255 ++ con (i32 1) ∷ con (i32 2) ∷ untouched 257 766 ++ (con (i32 3) ∷ [])) ∷ [])
@@ -152,16 +151,16 @@ runs =
     ∷ worked (Jmp 2 ∷ LoadI32 1 1 ∷ Label 2 ∷ LoadI32 2 2 ∷ []) stops 2 []
     ∷ worked (Jmp 2 ∷ LoadI32 1 1 ∷ Label 2 ∷ LoadI32 2 2 ∷ []) stops 3
     (ended last_cell (holding (other 0 ∷ other 1 ∷ con (i32 2) ∷ [])) ∷ [])
-    ∷ worked (Jmp 1 ∷ Label 1 ∷ Ret 3 ∷ Label 1 ∷ Ret 4 ∷ []) stops 3 (ended (returned (some 3)) as_started ∷ [])
-    ∷ worked (Jmp 2 ∷ Label 1 ∷ Ret 3 ∷ Label 2 ∷ Jmp 1 ∷ Label 1 ∷ []) stops 5 (ended (returned (some 3)) as_started ∷ [])
+    ∷ worked (Jmp 1 ∷ Label 1 ∷ Ret 3 ∷ Label 1 ∷ Ret 4 ∷ []) stops 3 (ended (returned (Some 3)) as_started ∷ [])
+    ∷ worked (Jmp 2 ∷ Label 1 ∷ Ret 3 ∷ Label 2 ∷ Jmp 1 ∷ Label 1 ∷ []) stops 5 (ended (returned (Some 3)) as_started ∷ [])
     -- a missing label, also one that only its low byte names
     ∷ worked (Jmp 4 ∷ Label 5 ∷ []) stops 1 (ended missing_label as_started ∷ [])
     ∷ worked (cell (0x08 ∷ 4 ∷ 1 ∷ []) ∷ Label 4 ∷ []) stops 1 (ended missing_label as_started ∷ [])
     -- JmpIf goes if true
     ∷ worked (LoadBool 1 1 ∷ JmpIf 1 3 ∷ RetNothing ∷ Label 3 ∷ Ret 1 ∷ []) stops 4
-    (ended (returned (some 1)) (holding (other 0 ∷ con (bool true) ∷ [])) ∷ [])
+    (ended (returned (Some 1)) (holding (other 0 ∷ con (bool true) ∷ [])) ∷ [])
     ∷ worked (LoadBool 1 0 ∷ JmpIf 1 3 ∷ RetNothing ∷ Label 3 ∷ Ret 1 ∷ []) stops 3
-    (ended (returned none) (holding (other 0 ∷ con (bool false) ∷ [])) ∷ [])
+    (ended (returned None) (holding (other 0 ∷ con (bool false) ∷ [])) ∷ [])
     -- and needs its label only then
     ∷ worked (LoadBool 1 1 ∷ JmpIf 1 3 ∷ []) stops 2 (ended missing_label (holding (other 0 ∷ con (bool true) ∷ [])) ∷ [])
     ∷ worked (LoadBool 1 0 ∷ JmpIf 1 3 ∷ []) stops 2 (ended last_cell (holding (other 0 ∷ con (bool false) ∷ [])) ∷ [])
@@ -173,8 +172,8 @@ runs =
     ∷ worked (LoadFx 1 1 ∷ JmpIf 1 3 ∷ Label 3 ∷ []) stops 2 (ended unfit_operand (holding (other 0 ∷ con (fx 1) ∷ [])) ∷ [])
     ∷ worked (JmpIf 1 3 ∷ []) stops 1 (ended unfit_operand as_started ∷ [])
     -- Ret, with and without src; its cause is Ret also as the last cell
-    ∷ worked (Ret 2 ∷ LoadI32 1 1 ∷ []) stops 1 (ended (returned (some 2)) as_started ∷ [])
-    ∷ worked (RetNothing ∷ []) stops 1 (ended (returned none) as_started ∷ [])
+    ∷ worked (Ret 2 ∷ LoadI32 1 1 ∷ []) stops 1 (ended (returned (Some 2)) as_started ∷ [])
+    ∷ worked (RetNothing ∷ []) stops 1 (ended (returned None) as_started ∷ [])
     -- an outside action: its cell and the registers before the answer, then the value in dst; the end is of the same step
     ∷ worked (ClockRead 1 ∷ []) counts 1
     (did (ClockRead 1) as_started ∷ ended last_cell (holding (other 0 ∷ con (u32 1) ∷ [])) ∷ [])
@@ -190,7 +189,7 @@ runs =
     -- without dst, all registers stay
     ∷ worked (CallNothing ∷ []) counts 1 (did CallNothing as_started ∷ ended last_cell as_started ∷ [])
     ∷ worked (Assert 1 ∷ []) counts 1 (did (Assert 1) as_started ∷ ended last_cell as_started ∷ [])
-    ∷ worked (StoreVar 1 ∷ Ret 1 ∷ []) counts 2 (did (StoreVar 1) as_started ∷ ended (returned (some 1)) as_started ∷ [])
+    ∷ worked (StoreVar 1 ∷ Ret 1 ∷ []) counts 2 (did (StoreVar 1) as_started ∷ ended (returned (Some 1)) as_started ∷ [])
     -- a stop, at the first action or a later one
     ∷ worked (ClockRead 1 ∷ Ret 1 ∷ []) stops 1 (did (ClockRead 1) as_started ∷ ended stopped as_started ∷ [])
     ∷ worked (ClockRead 1 ∷ Assert 1 ∷ Ret 1 ∷ []) stops_second 2
@@ -216,7 +215,7 @@ runs =
     -- any other computed command with an "other" operand ends the run (each beside a constant: at the end of the table)
     ∷ worked (AddI32 1 1 1 ∷ []) stops 1 (ended unfit_operand as_started ∷ [])
     -- a computed command may write the register that it reads
-    ∷ worked (LoadI32 0 5 ∷ AddI32 0 0 0 ∷ AddI32 0 0 0 ∷ Ret 0 ∷ []) stops 4 (ended (returned (some 0)) (holding (con (i32 20) ∷ [])) ∷ [])
+    ∷ worked (LoadI32 0 5 ∷ AddI32 0 0 0 ∷ AddI32 0 0 0 ∷ Ret 0 ∷ []) stops 4 (ended (returned (Some 0)) (holding (con (i32 20) ∷ [])) ∷ [])
     -- a loop that goes on while the outside says so
     ∷ worked (Label 1 ∷ ClockRead 0 ∷ JmpIf 0 1 ∷ Ret 0 ∷ []) thrice 9
     (did (ClockRead 0) as_started
@@ -227,7 +226,7 @@ runs =
     (did (ClockRead 0) as_started
     ∷ did (ClockRead 0) (holding (con (bool true) ∷ []))
     ∷ did (ClockRead 0) (holding (con (bool true) ∷ []))
-    ∷ ended (returned (some 0)) (holding (con (bool false) ∷ []))
+    ∷ ended (returned (Some 0)) (holding (con (bool false) ∷ []))
     ∷ [])
     -- one that never ends
     ∷ worked (Label 1 ∷ Jmp 1 ∷ []) stops 99 []

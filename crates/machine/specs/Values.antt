@@ -1,8 +1,7 @@
 -- Promise: what registers hold (document 01, 'How a function runs'): "Registers hold one of the six constant kinds, an f64 as its bits, or "other" with
 -- 64 bits; records are compared by kind and bits". Every number is allowed as bits, so what is claimed of all registers covers more than there
 -- are.
-use Rattle.std.specs.Prelude.{cond, List, [], ◌∷◌, ℕ, zero, suc, eqb}
-use Rattle.std.proofs.Math.Option.{Option, none, some}
+use Rattle.std.specs.Prelude.{cond, List, [], ◌∷◌, ℕ, zero, suc, eqb, Option, None, Some}
 use Rattle.std.specs.Int.{w32}
 use Rattle.std.proofs.Common.{to_z, of_z}
 use Rattle.leaves.specs.Float.{float_of, bits_of}
@@ -25,8 +24,8 @@ set d v r = λ x. cond (eqb x d) v (r x)
 
 -- the same with v in dst, where there is one
 unfoldable pub put : Option ℕ → Value → Regs → Regs
-put none v r = r
-put (some d) v r = set d v r
+put None v r = r
+put (Some d) v r = set d v r
 
 -- n registers from x on
 abbrev pub registers_from : ℕ → ℕ → Regs → List Value
@@ -53,10 +52,10 @@ operand (other n) = Unknown
 
 -- a value by its bits, as a register holds it and a load writes it; none of a value that isn't known
 abbrev pub written_of : ConstVal → Option Const
-written_of Unknown = none
-written_of (QuadV q) = some (quad q)
-written_of (BoolV b) = some (bool b)
-written_of (F64 x) = some (f64 (bits_of x))
-written_of (I32 z) = some (i32 (of_z w32 z))
-written_of (U32 n) = some (u32 n)
-written_of (Fx z) = some (fx (of_z w32 z))
+written_of Unknown = None
+written_of (QuadV q) = Some (quad q)
+written_of (BoolV b) = Some (bool b)
+written_of (F64 x) = Some (f64 (bits_of x))
+written_of (I32 z) = Some (i32 (of_z w32 z))
+written_of (U32 n) = Some (u32 n)
+written_of (Fx z) = Some (fx (of_z w32 z))

@@ -7,7 +7,6 @@ use lib.Dec.{eqb}
 use lib.IntN.{ℤ}
 use Rattle.cells.proofs.Facts.{by_test}
 use Rattle.factor.specs.Closed.{closed_fx, closed_i32, factor_modulo, inverse_of}
-use Rattle.factor.specs.declared.Factor.{Factor}
 use Rattle.factor.proofs.Halvings.{closed_i32_lem}
 use Rattle.factor.proofs.Thousandths.{closed_fx_lem}
 use Rattle.leaves.specs.Signed.{in_i32}
@@ -17,16 +16,15 @@ use Rattle.listing.specs.Text.{refused_text}
 use Rattle.matchdesk.specs.Cases.{FactorCase, asks, answered_cases}
 use Rattle.numbers.specs.Numbers.{plus, minus, is_numeral, with_sign, ranged, number_of, number_in, signed}
 use Rattle.matchdesk.specs.Program.{on_output, found_text, factor_by, numbers_texts, factor_texts}
-use Rattle.numbers.specs.declared.Number.{Number}
-use Rattle.numbers.specs.declared.Number.TheVariants.{Value, NoNumber}
 use Rattle.matchdesk.specs.declared.product.Product.{Product}
 use Rattle.matchdesk.specs.declared.product.Product.TheVariants.{Fx, I32}
+use Rattle.std.specs.Prelude.{Option, Some, None}
 
 -- ---- a word says only numbers in the range of an i32
 
-abbrev InRange : Number → Type 0
-InRange (Value z) = in_i32 z ≡ true
-InRange NoNumber = Unit {0}
+abbrev InRange : Option ℤ → Type 0
+InRange (Some z) = in_i32 z ≡ true
+InRange None = Unit {0}
 
 ranged_in : (z : ℤ) → InRange (ranged z)
 ranged_in z = by_test (in_i32 z) (λ t. rw t t) (λ t. rw t tt)
@@ -43,7 +41,7 @@ number_in_lem (b ∷ s) = by_test (eqb b minus)
 
 -- ---- and on those the closed forms are the search's
 
-abbrev closed_by : Product → ℤ → ℤ → Factor
+abbrev closed_by : Product → ℤ → ℤ → Option ℤ
 closed_by Fx = closed_fx
 closed_by I32 = closed_i32
 
@@ -51,10 +49,10 @@ closed_by_lem : (p : Product) (w f : ℤ) → in_i32 w ≡ true → in_i32 f ≡
 closed_by_lem Fx w f h k = sym (closed_fx_lem w f (sfits_in w h))
 closed_by_lem I32 w f h k = sym (closed_i32_lem w f (sfits_in w h) (sfits_in f k))
 
-texts_closed : (p : Product) (a b : Number) → InRange a → InRange b → numbers_texts (factor_by p) a b ≡ numbers_texts (closed_by p) a b
-texts_closed p NoNumber b h k = refl
-texts_closed p (Value w) NoNumber h k = refl
-texts_closed p (Value w) (Value f) h k = ap (λ (r : Factor). on_output (found_text r)) (closed_by_lem p w f h k)
+texts_closed : (p : Product) (a b : Option ℤ) → InRange a → InRange b → numbers_texts (factor_by p) a b ≡ numbers_texts (closed_by p) a b
+texts_closed p None b h k = refl
+texts_closed p (Some w) None h k = refl
+texts_closed p (Some w) (Some f) h k = ap (λ (r : Option ℤ). on_output (found_text r)) (closed_by_lem p w f h k)
 
 abbrev asked : FactorCase → FactorCase
 asked c = asks c.product c.wanted c.factor (factor_texts c.product c.wanted c.factor)

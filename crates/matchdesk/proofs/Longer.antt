@@ -6,7 +6,6 @@ use native.Mathlib.Omega.{arith}
 use borrow.Author.Tests.{lt-leb}
 use lib.ListN.{length, take}
 use Rattle.cells.specs.Check.{max_image}
-use Rattle.cells.specs.declared.refusal.Checked.TheVariants.{Refused as RefusedBy}
 use Rattle.cells.specs.declared.refusal.Refusal.TheVariants.{Length}
 use Rattle.crystalfold.specs.declared.rules.RuleSet.TheVariants.{Default}
 use Rattle.image.specs.Image.{image_answer}
@@ -17,29 +16,29 @@ use Rattle.packed.proofs.FirstBytes.{first-bytes_decide}
 use Rattle.passes.specs.Passes.{pass_answer}
 use Rattle.passes.specs.declared.Pass.{Pass}
 use Rattle.passes.specs.declared.Pass.TheVariants.{Both}
-use Rattle.passes.specs.declared.Rewrite.TheVariants.{Refused}
 use Rattle.passes.proofs.Checked.{check_long}
 use Rattle.rest.specs.Rounds.{rest_answer}
 use Rattle.sealing.specs.Sealing.{sealing_answer}
-use Rattle.sealing.specs.declared.Sealing.TheVariants.{Refused as RefusedSealing}
 use Rattle.sealing.proofs.Outcomes.{site-refuses}
 use Rattle.matchdesk.specs.Program.{result_texts, program_texts, LongInputs}
 use Rattle.matchdesk.specs.declared.Job.{Job}
 use Rattle.matchdesk.specs.declared.Job.TheVariants.{Rewrite as RewriteJob, Rest, Bytes, Check, Pages, Pack, Unpack, Seal}
+use Rattle.std.specs.Prelude.{Err}
+use Rattle.sealing.specs.declared.SealingError.TheVariants.{Refused as RefusedSealing}
 
-answer-long : (p : Pass) (image : List ℕ) → max_image < length image → pass_answer p image max_image ≡ Refused Length
+answer-long : (p : Pass) (image : List ℕ) → max_image < length image → pass_answer p image max_image ≡ Err Length
 unfolding pass_answer
 answer-long p image h = rw (← check_long image max_image h)
 
-rest-long : (image : List ℕ) → max_image < length image → rest_answer Default image max_image ≡ Refused Length
+rest-long : (image : List ℕ) → max_image < length image → rest_answer Default image max_image ≡ Err Length
 unfolding rest_answer
 rest-long image h = rw (← check_long image max_image h)
 
-site-long : (image : List ℕ) → max_image < length image → site_answer image ≡ RefusedBy Length
+site-long : (image : List ℕ) → max_image < length image → site_answer image ≡ Err Length
 unfolding site_answer image_answer
 site-long image h = simp (lt-leb _ _ h)
 
-sealing_long : (image : List ℕ) → max_image < length image → sealing_answer image ≡ RefusedSealing Length
+sealing_long : (image : List ℕ) → max_image < length image → sealing_answer image ≡ Err (RefusedSealing Length)
 sealing_long image h = site-refuses image Length (site-long image h)
 
 pack_long : (image : List ℕ) → max_image < length image → pack_result image ≡ refused Length

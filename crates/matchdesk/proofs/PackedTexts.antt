@@ -7,8 +7,6 @@ use borrow.Author.Tests.{le-leb}
 use lib.ListN.{length}
 use Rattle.input.specs.Prefix.{IsPrefixLen}
 use Rattle.cells.specs.Check.{max_image}
-use Rattle.cells.specs.declared.refusal.Checked.{Checked}
-use Rattle.cells.specs.declared.refusal.Checked.TheVariants.{Good, Refused as RefusedBy}
 use Rattle.image.specs.Image.{image_answer}
 use Rattle.image.proofs.Good.{image_good}
 use Rattle.listing.specs.Promises.{TextWritten}
@@ -16,14 +14,15 @@ use Rattle.listing.proofs.Pieces.{written_none}
 use Rattle.packed.specs.Form.{packed}
 use Rattle.packed.specs.Reading.{Result, bytes, refused, ends, if_good, unpacked}
 use Rattle.packed.specs.Operations.{pack_result, unpack_result, answer_of, output_of, length_written, Done}
-use Rattle.packed.specs.declared.Packing.{Packing}
-use Rattle.packed.specs.declared.Packing.TheVariants.{Bytes}
 use Rattle.packed.proofs.Lengths.{packed_shorter}
 use Rattle.packed.proofs.Undo.{packed-unpacked}
 use Rattle.matchdesk.specs.Program.{result_texts}
 use Rattle.matchdesk.specs.Promises.{fault_text, Says}
 use Rattle.matchdesk.specs.declared.Said.{Said}
 use Rattle.matchdesk.proofs.Texts.{counted, none-counted}
+use Rattle.std.specs.Prelude.{Ok, Err}
+use Rattle.cells.specs.Checked.{Checked}
+use Rattle.packed.specs.Answer.{Packing}
 
 -- ---- the result is no longer than the longest image
 
@@ -33,8 +32,8 @@ Short (refused x) = Unit {0}
 Short (ends p d) = Unit {0}
 
 good_short : (s : List ℕ) (r : Checked) → image_answer s ≡ r → Short (if_good r (packed s))
-good_short s Good e = omega (arith, packed_shorter s, ((image_good s).0 e).short)
-good_short s (RefusedBy x) e = tt
+good_short s (Ok tt) e = omega (arith, packed_shorter s, ((image_good s).0 e).short)
+good_short s (Err x) e = tt
 
 pub pack_short : (s : List ℕ) → Short (pack_result s)
 unfolding pack_result
@@ -61,7 +60,7 @@ module _ {before after error error' : List ℕ} {r : Packing} {said : Said} wher
   unfolding answer_of output_of
   packing_said (bytes b) short room w v =
       let fits : length b ≤ length before = omega (arith, short) in
-      let is : r ≡ Bytes (length b) = w.answer ∙ rw (le-leb _ _ fits) in
+      let is : r ≡ Ok (length b) = w.answer ∙ rw (le-leb _ _ fits) in
       let text : TextWritten b before after said.output = record { end = v.output ∙ ap length_written is; bytes = w.bytes ∙ rw (le-leb _ _ fits) } in
       (counted text fits, record { on_output = text; on_error = rw is at v.error_text })
   packing_said (refused x) short room w v =

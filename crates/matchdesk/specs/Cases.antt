@@ -1,7 +1,6 @@
 -- Worked: runs of the program: an argument, an image or a packed form, and what goes to standard output and to standard error; `none` where the argument is no word.
 -- Then `factor`: the words of its products, words that are no numbers, and numbers.
-use Rattle.std.specs.Prelude.{◌≡◌, refl, List, [], ◌∷◌, ◌++◌, map, ℕ, replicate}
-use Rattle.std.proofs.Math.Option.{Option, none, some}
+use Rattle.std.specs.Prelude.{◌≡◌, refl, List, [], ◌∷◌, ◌++◌, map, ℕ, replicate, Option, Some, None}
 use Rattle.std.specs.Float.Ieee as Ieee
 use Rattle.leaves.specs.Signed.{wrap, add_i32}
 use Rattle.leaves.specs.Float.{float_of, bits_of, div_f64}
@@ -33,16 +32,13 @@ use Rattle.rest.specs.Rounds.{rest_bytes, rest_count, rest_answer}
 use Rattle.sealing.specs.Sealing.{numbering_answer, sealing_answer}
 use Rattle.numbers.specs.Numbers.{number_in}
 use Rattle.matchdesk.specs.Program.{Texts, on_output, on_error, asked_for, product_for, program_texts, factor_texts, rewrite_word, fuller_word, rest_word, bytes_word, check_word, pages_word, pack_word, unpack_word, seal_word}
-use Rattle.matchdesk.specs.declared.Asked.{Asked}
-use Rattle.matchdesk.specs.declared.Asked.TheVariants.{For, Unknown}
-use Rattle.matchdesk.specs.declared.product.Chosen.{Chosen}
-use Rattle.matchdesk.specs.declared.product.Chosen.TheVariants.{By, Neither}
+use Rattle.matchdesk.specs.declared.Job.{Job}
 use Rattle.matchdesk.specs.declared.product.Product.{Product}
 use Rattle.matchdesk.specs.declared.product.Product.TheVariants.{Fx, I32}
 
-pub done_for : Asked → List ℕ → Option Texts
-done_for (For job) input = some (program_texts job input)
-done_for Unknown input = none
+pub done_for : Option Job → List ℕ → Option Texts
+done_for (Some job) input = Some (program_texts job input)
+done_for None input = None
 
 pub record ProgramCase : Type 0 where
   pub argument : List ℕ
@@ -129,120 +125,120 @@ count digit = 114 ∷ 101 ∷ 119 ∷ 114 ∷ 105 ∷ 116 ∷ 101 ∷ 115 ∷ 32
 pub cases : List ProgramCase
 cases =
     -- the printed example: its text (whose lines listing/specs/Cases has by their bytes), its bytes, its check
-    case rewrite_word (flat example) (some (on_output (
+    case rewrite_word (flat example) (Some (on_output (
     cell_line (Head 7 3 0) ++ cell_line (LoadI32 1 5) ++ cell_line (LoadI32 2 10) ++ cell_line (Ret 2) ++ count 49
     )))
-    ∷ case bytes_word (flat example) (some (on_output (flat rewritten)))
-    ∷ case check_word (flat example) (some (on_output good))
+    ∷ case bytes_word (flat example) (Some (on_output (flat rewritten)))
+    ∷ case check_word (flat example) (Some (on_output good))
     -- by the fuller rewrite: the same; and a truth-order quad, which the default one leaves
-    ∷ case fuller_word (flat example) (some (on_output (
+    ∷ case fuller_word (flat example) (Some (on_output (
     cell_line (Head 7 3 0) ++ cell_line (LoadI32 1 5) ++ cell_line (LoadI32 2 10) ++ cell_line (Ret 2) ++ count 49
     )))
-    ∷ case fuller_word (flat quads) (some (on_output (
+    ∷ case fuller_word (flat quads) (Some (on_output (
     cell_line (Head 7 3 0) ++ cell_line (LoadQ 1 1) ++ cell_line (LoadQ 2 2) ++ cell_line (Ret 2) ++ count 49
     )))
-    ∷ case rewrite_word (flat quads) (some (on_output (
+    ∷ case rewrite_word (flat quads) (Some (on_output (
     cell_line (Head 7 3 0) ++ cell_line (LoadQ 1 1) ++ cell_line (QTruthNot 2 1) ++ cell_line (Ret 2) ++ count 48
     )))
-    ∷ case bytes_word (flat quads) (some (on_output (flat quads)))
+    ∷ case bytes_word (flat quads) (Some (on_output (flat quads)))
     -- until it rests: the last round's cells and the sum of the counts, where one rewrite leaves a load that is overwritten; and at rest as sent
-    ∷ case rest_word (flat overwritten) (some (on_output (cell_line (Head 7 1 0) ++ cell_line (LoadI32 1 10) ++ count 50)))
-    ∷ case rewrite_word (flat overwritten) (some (on_output (cell_line (Head 7 2 0) ++ cell_line (LoadI32 1 5) ++ cell_line (LoadI32 1 10) ++ count 49)))
-    ∷ case rest_word (flat quads) (some (on_output (
+    ∷ case rest_word (flat overwritten) (Some (on_output (cell_line (Head 7 1 0) ++ cell_line (LoadI32 1 10) ++ count 50)))
+    ∷ case rewrite_word (flat overwritten) (Some (on_output (cell_line (Head 7 2 0) ++ cell_line (LoadI32 1 5) ++ cell_line (LoadI32 1 10) ++ count 49)))
+    ∷ case rest_word (flat quads) (Some (on_output (
     cell_line (Head 7 3 0) ++ cell_line (LoadQ 1 1) ++ cell_line (QTruthNot 2 1) ++ cell_line (Ret 2) ++ count 48
     )))
-    ∷ case rest_word [] (some (on_output (count 48)))
+    ∷ case rest_word [] (Some (on_output (count 48)))
     -- a division by zero: the same
-    ∷ case fuller_word (flat zeros) (some (on_output (
+    ∷ case fuller_word (flat zeros) (Some (on_output (
     cell_line (Head 7 3 0) ++ cell_line (LoadF64 1 0x8000000000000000) ++ cell_line (LoadF64 2 0x7FF8000000000000) ++ cell_line (Ret 2) ++ count 49
     )))
-    ∷ case rewrite_word (flat zeros) (some (on_output (
+    ∷ case rewrite_word (flat zeros) (Some (on_output (
     cell_line (Head 7 3 0) ++ cell_line (LoadF64 1 0x8000000000000000) ++ cell_line (DivF64 2 1 1) ++ cell_line (Ret 2) ++ count 48
     )))
-    ∷ case bytes_word (flat zeros) (some (on_output (flat zeros)))
+    ∷ case bytes_word (flat zeros) (Some (on_output (flat zeros)))
     -- registers past 255: 1,023 is the last, and 1,024 refuses 4
-    ∷ case rewrite_word (flat apart) (some (on_output (
+    ∷ case rewrite_word (flat apart) (Some (on_output (
     cell_line (Head 7 4 0) ++ cell_line (LoadI32 257 5) ++ cell_line (LoadI32 1 7) ++ cell_line (LoadI32 1023 12) ++ cell_line (Ret 1023) ++ count 49
     )))
-    ∷ case check_word (flat apart) (some (on_output good))
-    ∷ case check_word (flat beyond) (some (on_output (refused 52 49)))
-    ∷ case bytes_word (flat beyond) (some (on_error (refused 52 49)))
+    ∷ case check_word (flat apart) (Some (on_output good))
+    ∷ case check_word (flat beyond) (Some (on_output (refused 52 49)))
+    ∷ case bytes_word (flat beyond) (Some (on_error (refused 52 49)))
     -- the empty image is rewritten to the empty image
-    ∷ case bytes_word [] (some (on_output []))
-    ∷ case check_word [] (some (on_output good))
+    ∷ case bytes_word [] (Some (on_output []))
+    ∷ case check_word [] (Some (on_output good))
     -- one byte is no cell, and a head of 0 is none: only `bytes` says so on standard error
-    ∷ case rewrite_word (0 ∷ []) (some (on_output (refused 49 48)))
-    ∷ case fuller_word (0 ∷ []) (some (on_output (refused 49 48)))
-    ∷ case fuller_word (replicate 16 0) (some (on_output (refused 50 48)))
-    ∷ case rest_word (0 ∷ []) (some (on_output (refused 49 48)))
-    ∷ case rest_word (replicate 16 0) (some (on_output (refused 50 48)))
-    ∷ case bytes_word (0 ∷ []) (some (on_error (refused 49 48)))
-    ∷ case check_word (replicate 16 0) (some (on_output (refused 50 48)))
-    ∷ case bytes_word (replicate 16 0) (some (on_error (refused 50 48)))
+    ∷ case rewrite_word (0 ∷ []) (Some (on_output (refused 49 48)))
+    ∷ case fuller_word (0 ∷ []) (Some (on_output (refused 49 48)))
+    ∷ case fuller_word (replicate 16 0) (Some (on_output (refused 50 48)))
+    ∷ case rest_word (0 ∷ []) (Some (on_output (refused 49 48)))
+    ∷ case rest_word (replicate 16 0) (Some (on_output (refused 50 48)))
+    ∷ case bytes_word (0 ∷ []) (Some (on_error (refused 49 48)))
+    ∷ case check_word (replicate 16 0) (Some (on_output (refused 50 48)))
+    ∷ case bytes_word (replicate 16 0) (Some (on_error (refused 50 48)))
     -- the pages: of the printed example, of a site with its event, of nothing; a refusal as of a rewrite, on standard output
-    ∷ case pages_word (flat example) (some (on_output (
+    ∷ case pages_word (flat example) (Some (on_output (
     ascii "function 00007 page 001                                  " ++ 10 ∷ []
     ++ ascii "    0  LoadI32             010005000000000000000000000000" ++ 10 ∷ []
     ++ ascii "    1  AddI32              020001000100000000000000000000" ++ 10 ∷ []
     ++ ascii "    2  Ret                 010200000000000000000000000000" ++ 10 ∷ []
     )))
-    ∷ case pages_word (flat sited) (some (on_output (
+    ∷ case pages_word (flat sited) (Some (on_output (
     ascii "function 65535 page 001                                  " ++ 10 ∷ []
     ++ ascii "    0  StoreVar            000000000109000000000000000000" ++ 10 ∷ []
     ++ ascii "    1  Borrow              010900000000000000000000000000" ++ 10 ∷ []
     )))
-    ∷ case pages_word [] (some (on_output []))
-    ∷ case pages_word (0 ∷ []) (some (on_output (refused 49 48)))
-    ∷ case pages_word (replicate 16 0) (some (on_output (refused 50 48)))
-    ∷ case pages_word (flat beyond) (some (on_output (refused 52 49)))
+    ∷ case pages_word [] (Some (on_output []))
+    ∷ case pages_word (0 ∷ []) (Some (on_output (refused 49 48)))
+    ∷ case pages_word (replicate 16 0) (Some (on_output (refused 50 48)))
+    ∷ case pages_word (flat beyond) (Some (on_output (refused 52 49)))
     -- the packed form and back: of the printed example, of a site with its event, without it (sites are not checked), of nothing
-    ∷ case pack_word (flat example) (some (on_output example_packed))
-    ∷ case unpack_word example_packed (some (on_output (flat example)))
-    ∷ case pack_word (flat sited) (some (on_output sited_packed))
-    ∷ case unpack_word sited_packed (some (on_output (flat sited)))
-    ∷ case pack_word (flat unpaired) (some (on_output unpaired_packed))
-    ∷ case unpack_word unpaired_packed (some (on_output (flat unpaired)))
-    ∷ case pack_word [] (some (on_output []))
-    ∷ case unpack_word [] (some (on_output []))
+    ∷ case pack_word (flat example) (Some (on_output example_packed))
+    ∷ case unpack_word example_packed (Some (on_output (flat example)))
+    ∷ case pack_word (flat sited) (Some (on_output sited_packed))
+    ∷ case unpack_word sited_packed (Some (on_output (flat sited)))
+    ∷ case pack_word (flat unpaired) (Some (on_output unpaired_packed))
+    ∷ case unpack_word unpaired_packed (Some (on_output (flat unpaired)))
+    ∷ case pack_word [] (Some (on_output []))
+    ∷ case unpack_word [] (Some (on_output []))
     -- their refusals, on standard error: an image as of `bytes`
-    ∷ case pack_word (0 ∷ []) (some (on_error (refused 49 48)))
-    ∷ case pack_word (replicate 16 0) (some (on_error (refused 50 48)))
-    ∷ case pack_word (flat beyond) (some (on_error (refused 52 49)))
-    ∷ case pack_word example_packed (some (on_error (refused 49 48)))
+    ∷ case pack_word (0 ∷ []) (Some (on_error (refused 49 48)))
+    ∷ case pack_word (replicate 16 0) (Some (on_error (refused 50 48)))
+    ∷ case pack_word (flat beyond) (Some (on_error (refused 52 49)))
+    ∷ case pack_word example_packed (Some (on_error (refused 49 48)))
     -- a packed form: a first byte F1; the command 52 with nothing behind it; the register 1,024; what is left behind a function
-    ∷ case unpack_word (0xF1 ∷ 7 ∷ 0 ∷ 1 ∷ 0 ∷ 0 ∷ 0 ∷ []) (some (on_error (refused 50 48)))
-    ∷ case unpack_word (promising ++ 0x52 ∷ []) (some (on_error (refused 51 49)))
-    ∷ case unpack_word (promising ++ 0x2B ∷ 0 ∷ 4 ∷ 5 ∷ 0 ∷ 0 ∷ 0 ∷ []) (some (on_error (refused 52 49)))
-    ∷ case unpack_word (example_packed ++ replicate 7 0) (some (on_error (ascii "refused 2 1 4" ++ 10 ∷ [])))
+    ∷ case unpack_word (0xF1 ∷ 7 ∷ 0 ∷ 1 ∷ 0 ∷ 0 ∷ 0 ∷ []) (Some (on_error (refused 50 48)))
+    ∷ case unpack_word (promising ++ 0x52 ∷ []) (Some (on_error (refused 51 49)))
+    ∷ case unpack_word (promising ++ 0x2B ∷ 0 ∷ 4 ∷ 5 ∷ 0 ∷ 0 ∷ 0 ∷ []) (Some (on_error (refused 52 49)))
+    ∷ case unpack_word (example_packed ++ replicate 7 0) (Some (on_error (ascii "refused 2 1 4" ++ 10 ∷ [])))
     -- an end before a promised cell, inside one, inside a head, and inside a head behind a function
-    ∷ case unpack_word promising (some (on_error (ascii "refused 32 0 1" ++ 10 ∷ [])))
-    ∷ case unpack_word (promising ++ 0x2B ∷ 0 ∷ 4 ∷ 5 ∷ 0 ∷ 0 ∷ []) (some (on_error (ascii "refused 32 0 1" ++ 10 ∷ [])))
-    ∷ case unpack_word (0xF0 ∷ []) (some (on_error (ascii "refused 32 0 0" ++ 10 ∷ [])))
-    ∷ case unpack_word (example_packed ++ 0 ∷ []) (some (on_error (ascii "refused 32 1 4" ++ 10 ∷ [])))
+    ∷ case unpack_word promising (Some (on_error (ascii "refused 32 0 1" ++ 10 ∷ [])))
+    ∷ case unpack_word (promising ++ 0x2B ∷ 0 ∷ 4 ∷ 5 ∷ 0 ∷ 0 ∷ []) (Some (on_error (ascii "refused 32 0 1" ++ 10 ∷ [])))
+    ∷ case unpack_word (0xF0 ∷ []) (Some (on_error (ascii "refused 32 0 0" ++ 10 ∷ [])))
+    ∷ case unpack_word (example_packed ++ 0 ∷ []) (Some (on_error (ascii "refused 32 1 4" ++ 10 ∷ [])))
     -- the sealing check: no numbers, one, two of different kinds; an activation number twice, a write number behind a function without cells, both;
     -- as the site check, and as the image check; `check` passes what it refuses by 34
-    ∷ case seal_word [] (some (on_output good))
-    ∷ case seal_word (flat example) (some (on_output good))
-    ∷ case seal_word (flat (sited ++ made)) (some (on_output good))
-    ∷ case seal_word (flat (sited ++ sited)) (some (on_output (ascii "refused 34 1 9" ++ 10 ∷ [])))
-    ∷ case seal_word (flat (made ++ Head 7 0 0 ∷ made)) (some (on_output (ascii "refused 35 2 4294967295" ++ 10 ∷ [])))
-    ∷ case seal_word (flat (made ++ made ++ sited ++ sited)) (some (on_output (ascii "refused 34 3 9" ++ 10 ∷ [])))
-    ∷ case check_word (flat (sited ++ sited)) (some (on_output good))
-    ∷ case seal_word (flat (sited ++ sited ++ unpaired)) (some (on_output (ascii "refused 14 2 0" ++ 10 ∷ [])))
-    ∷ case seal_word (flat beyond) (some (on_output (refused 52 49)))
-    ∷ case seal_word (0 ∷ []) (some (on_output (refused 49 48)))
+    ∷ case seal_word [] (Some (on_output good))
+    ∷ case seal_word (flat example) (Some (on_output good))
+    ∷ case seal_word (flat (sited ++ made)) (Some (on_output good))
+    ∷ case seal_word (flat (sited ++ sited)) (Some (on_output (ascii "refused 34 1 9" ++ 10 ∷ [])))
+    ∷ case seal_word (flat (made ++ Head 7 0 0 ∷ made)) (Some (on_output (ascii "refused 35 2 4294967295" ++ 10 ∷ [])))
+    ∷ case seal_word (flat (made ++ made ++ sited ++ sited)) (Some (on_output (ascii "refused 34 3 9" ++ 10 ∷ [])))
+    ∷ case check_word (flat (sited ++ sited)) (Some (on_output good))
+    ∷ case seal_word (flat (sited ++ sited ++ unpaired)) (Some (on_output (ascii "refused 14 2 0" ++ 10 ∷ [])))
+    ∷ case seal_word (flat beyond) (Some (on_output (refused 52 49)))
+    ∷ case seal_word (0 ∷ []) (Some (on_output (refused 49 48)))
     -- no word: none at all, `byte`, `checks`, `full`, `page`, `packs`, `npack`, `rests`, `res`, `seals`, `sea`
-    ∷ case [] (flat example) none
-    ∷ case (98 ∷ 121 ∷ 116 ∷ 101 ∷ []) (flat example) none
-    ∷ case (check_word ++ 115 ∷ []) (flat example) none
-    ∷ case (102 ∷ 117 ∷ 108 ∷ 108 ∷ []) (flat example) none
-    ∷ case (112 ∷ 97 ∷ 103 ∷ 101 ∷ []) (flat example) none
-    ∷ case (pack_word ++ 115 ∷ []) (flat example) none
-    ∷ case (110 ∷ pack_word) example_packed none
-    ∷ case (rest_word ++ 115 ∷ []) (flat example) none
-    ∷ case (114 ∷ 101 ∷ 115 ∷ []) (flat example) none
-    ∷ case (seal_word ++ 115 ∷ []) (flat example) none
-    ∷ case (115 ∷ 101 ∷ 97 ∷ []) (flat example) none
+    ∷ case [] (flat example) None
+    ∷ case (98 ∷ 121 ∷ 116 ∷ 101 ∷ []) (flat example) None
+    ∷ case (check_word ++ 115 ∷ []) (flat example) None
+    ∷ case (102 ∷ 117 ∷ 108 ∷ 108 ∷ []) (flat example) None
+    ∷ case (112 ∷ 97 ∷ 103 ∷ 101 ∷ []) (flat example) None
+    ∷ case (pack_word ++ 115 ∷ []) (flat example) None
+    ∷ case (110 ∷ pack_word) example_packed None
+    ∷ case (rest_word ++ 115 ∷ []) (flat example) None
+    ∷ case (114 ∷ 101 ∷ 115 ∷ []) (flat example) None
+    ∷ case (seal_word ++ 115 ∷ []) (flat example) None
+    ∷ case (115 ∷ 101 ∷ 97 ∷ []) (flat example) None
     ∷ []
 
 pub worked : map (λ (c : ProgramCase). case c.argument c.input (done_for (asked_for c.argument) c.input)) cases ≡ cases
@@ -253,23 +249,23 @@ worked = refl
 
 pub record ProductCase : Type 0 where
   pub word : List ℕ
-  pub chosen : Chosen
+  pub chosen : Option Product
 
-abbrev pub names : List ℕ → Chosen → ProductCase
+abbrev pub names : List ℕ → Option Product → ProductCase
 names word chosen = record { word = word; chosen = chosen }
 
 pub product_cases : List ProductCase
 product_cases =
-    names (ascii "fx") (By Fx)
-    ∷ names (ascii "i32") (By I32)
-    ∷ names [] Neither
-    ∷ names (ascii "f") Neither
-    ∷ names (ascii "fx ") Neither
-    ∷ names (ascii "Fx") Neither
-    ∷ names (ascii "i3") Neither
-    ∷ names (ascii "i320") Neither
-    ∷ names (ascii " i32") Neither
-    ∷ names (ascii "f64") Neither
+    names (ascii "fx") (Some Fx)
+    ∷ names (ascii "i32") (Some I32)
+    ∷ names [] None
+    ∷ names (ascii "f") None
+    ∷ names (ascii "fx ") None
+    ∷ names (ascii "Fx") None
+    ∷ names (ascii "i3") None
+    ∷ names (ascii "i320") None
+    ∷ names (ascii " i32") None
+    ∷ names (ascii "f64") None
     ∷ []
 
 pub products_worked : map (λ (c : ProductCase). names c.word (product_for c.word)) product_cases ≡ product_cases

@@ -2,16 +2,12 @@
 -- document 01's ('Cells on either edge', the last paragraph); of the fuller rewrite (document 02, W2) and of the rewrite until it rests (W11) it is the
 -- same. The pages are document 02's (W1), and so are the packed form (W8), the sealing check (W13) and the other factor (W14), which is found without
 -- an image.
-use Rattle.std.specs.Prelude.{◌≡◌, List, [], ◌∷◌, ◌++◌, Bool, true, false, cond, ◌&&◌, ℕ, ◌<◌, eqb, ℤ, length, take}
+use Rattle.std.specs.Prelude.{◌≡◌, List, [], ◌∷◌, ◌++◌, Bool, true, false, cond, ◌&&◌, ℕ, ◌<◌, eqb, ℤ, length, take, Option, Some, None, Ok, Err}
 use Prim.Native.String.{String}
 use Rattle.cells.specs.Cells.{cells}
 use Rattle.cells.specs.Check.{max_image}
 use Rattle.crystalfold.specs.declared.rules.RuleSet.TheVariants.{Default, Fuller}
-use Rattle.cells.specs.declared.refusal.Checked.{Checked}
-use Rattle.cells.specs.declared.refusal.Checked.TheVariants.{Good, Refused as RefusedBy}
 use Rattle.factor.specs.Factor.{factor_fx, factor_i32}
-use Rattle.factor.specs.declared.Factor.{Factor}
-use Rattle.factor.specs.declared.Factor.TheVariants.{Found, NoFactor}
 use Rattle.image.specs.SiteCheck.{site_answer}
 use Rattle.listing.specs.Places.{ascii}
 use Rattle.listing.specs.Text.{line_feed, rewritten_text, refused_text, refusal_text, good_text, checked_text}
@@ -21,24 +17,18 @@ use Rattle.pages.specs.Pages.{pages_text}
 use Rattle.passes.specs.Promises.{length_written}
 use Rattle.passes.specs.Passes.{pass_answer, pass_bytes, pass_output}
 use Rattle.passes.specs.declared.Pass.TheVariants.{Both}
-use Rattle.passes.specs.declared.Rewrite.{Rewrite}
-use Rattle.passes.specs.declared.Rewrite.TheVariants.{Written, Refused}
 use Rattle.rest.specs.Rounds.{rest_bytes, rest_answer, rest_output}
 use Rattle.sealing.specs.Promises.{repeat_number}
 use Rattle.sealing.specs.Sealing.{sealing_answer}
-use Rattle.sealing.specs.declared.Sealing.{Sealing}
-use Rattle.sealing.specs.declared.Sealing.TheVariants.{Good as Sealable, Refused as RefusedSealing, Repeated}
 use Rattle.numbers.specs.Numbers.{number_in, signed}
-use Rattle.numbers.specs.declared.Number.{Number}
-use Rattle.numbers.specs.declared.Number.TheVariants.{Value, NoNumber}
-use Rattle.matchdesk.specs.declared.product.Chosen.{Chosen}
-use Rattle.matchdesk.specs.declared.product.Chosen.TheVariants.{By, Neither}
 use Rattle.matchdesk.specs.declared.product.Product.{Product}
 use Rattle.matchdesk.specs.declared.product.Product.TheVariants.{Fx, I32}
-use Rattle.matchdesk.specs.declared.Asked.{Asked}
-use Rattle.matchdesk.specs.declared.Asked.TheVariants.{For, Unknown}
 use Rattle.matchdesk.specs.declared.Job.{Job}
 use Rattle.matchdesk.specs.declared.Job.TheVariants.{Rewrite as RewriteJob, Rest, Bytes, Check, Pages, Pack, Unpack, Seal}
+use Rattle.cells.specs.Checked.{Checked}
+use Rattle.passes.specs.Rewrite.{Rewrite}
+use Rattle.sealing.specs.Answer.{Sealing}
+use Rattle.sealing.specs.declared.SealingError.TheVariants.{Refused as RefusedSealing, Repeated}
 
 -- ---- the words
 
@@ -76,17 +66,17 @@ unpack_word = 117 ∷ 110 ∷ 112 ∷ 97 ∷ 99 ∷ 107 ∷ []
 abbrev pub seal_word : List ℕ
 seal_word = 115 ∷ 101 ∷ 97 ∷ 108 ∷ []
 
-unfoldable pub asked_for : List ℕ → Asked
+unfoldable pub asked_for : List ℕ → Option Job
 asked_for word =
-    cond (same_bytes word rewrite_word) (For (RewriteJob Default))
-    (cond (same_bytes word fuller_word) (For (RewriteJob Fuller))
-    (cond (same_bytes word rest_word) (For Rest)
-    (cond (same_bytes word bytes_word) (For Bytes)
-    (cond (same_bytes word check_word) (For Check)
-    (cond (same_bytes word pages_word) (For Pages)
-    (cond (same_bytes word pack_word) (For Pack)
-    (cond (same_bytes word unpack_word) (For Unpack)
-    (cond (same_bytes word seal_word) (For Seal) Unknown))))))))
+    cond (same_bytes word rewrite_word) (Some (RewriteJob Default))
+    (cond (same_bytes word fuller_word) (Some (RewriteJob Fuller))
+    (cond (same_bytes word rest_word) (Some Rest)
+    (cond (same_bytes word bytes_word) (Some Bytes)
+    (cond (same_bytes word check_word) (Some Check)
+    (cond (same_bytes word pages_word) (Some Pages)
+    (cond (same_bytes word pack_word) (Some Pack)
+    (cond (same_bytes word unpack_word) (Some Unpack)
+    (cond (same_bytes word seal_word) (Some Seal) None))))))))
 
 -- `fx` and `i32`
 abbrev pub fx_word : List ℕ
@@ -95,8 +85,8 @@ fx_word = 102 ∷ 120 ∷ []
 abbrev pub i32_word : List ℕ
 i32_word = 105 ∷ 51 ∷ 50 ∷ []
 
-unfoldable pub product_for : List ℕ → Chosen
-product_for word = cond (same_bytes word fx_word) (By Fx) (cond (same_bytes word i32_word) (By I32) Neither)
+unfoldable pub product_for : List ℕ → Option Product
+product_for word = cond (same_bytes word fx_word) (Some Fx) (cond (same_bytes word i32_word) (Some I32) None)
 
 -- ---- the texts
 
@@ -113,24 +103,24 @@ on_error text = record { output = []; error = text }
 
 -- the text of a rewrite's answer; `new` are the bytes that it wrote
 abbrev pub answer_text : Rewrite → List ℕ → List ℕ
-answer_text (Written n report) new = rewritten_text (cells new) report.num_rewrites
-answer_text (Refused x) new = refusal_text x
+answer_text (Ok w) new = rewritten_text (cells new) w.report.num_rewrites
+answer_text (Err x) new = refusal_text x
 
 -- those bytes themselves; a refusal goes to standard error
 abbrev pub answer_bytes : Rewrite → List ℕ → Texts
-answer_bytes (Written n report) new = on_output new
-answer_bytes (Refused x) new = on_error (refusal_text x)
+answer_bytes (Ok w) new = on_output new
+answer_bytes (Err x) new = on_error (refusal_text x)
 
 -- of the sealing check as of a check: `good`, or the line of the refusal
 abbrev pub sealed_text : Sealing → List ℕ
-sealed_text Sealable = good_text
-sealed_text (RefusedSealing x) = refusal_text x
-sealed_text (Repeated w position x) = refused_text (repeat_number w) position x
+sealed_text (Ok tt) = good_text
+sealed_text (Err (RefusedSealing x)) = refusal_text x
+sealed_text (Err (Repeated w position x)) = refused_text (repeat_number w) position x
 
 -- the pages of an accepted image; or as of a refused one. There is always room for them
 abbrev pub laid_text : Checked → List ℕ → List ℕ
-laid_text Good pages = pages
-laid_text (RefusedBy x) pages = refusal_text x
+laid_text (Ok tt) pages = pages
+laid_text (Err x) pages = refusal_text x
 
 -- a packed form, or the image of one; a refusal goes to standard error. There is always room for the bytes
 abbrev pub result_texts : Result → Texts
@@ -174,24 +164,24 @@ work_after Seal input before = before
 
 -- ---- the texts of `factor`
 
-abbrev pub factor_by : Product → ℤ → ℤ → Factor
+abbrev pub factor_by : Product → ℤ → ℤ → Option ℤ
 factor_by Fx wanted factor = factor_fx wanted factor
 factor_by I32 wanted factor = factor_i32 wanted factor
 
 -- the factor that is found, in decimal; or document 02's refusal where there is none
-abbrev pub found_text : Factor → List ℕ
-found_text (Found z) = signed z ++ line_feed ∷ []
-found_text NoFactor = refused_text 36 0 0
+abbrev pub found_text : Option ℤ → List ℕ
+found_text (Some z) = signed z ++ line_feed ∷ []
+found_text None = refused_text 36 0 0
 
 -- of a word that is no number, by its name in the usage
 abbrev pub no_number_text : String → List ℕ
 no_number_text name = ascii name ++ ascii " is no i32: a whole number from -2147483648 to 2147483647" ++ line_feed ∷ []
 
 -- the first of the two words that is none is said; else what is found for the two numbers
-abbrev pub numbers_texts : (ℤ → ℤ → Factor) → Number → Number → Texts
-numbers_texts find NoNumber factor = on_error (no_number_text "WANTED")
-numbers_texts find (Value w) NoNumber = on_error (no_number_text "FACTOR")
-numbers_texts find (Value w) (Value f) = on_output (found_text (find w f))
+abbrev pub numbers_texts : (ℤ → ℤ → Option ℤ) → Option ℤ → Option ℤ → Texts
+numbers_texts find None factor = on_error (no_number_text "WANTED")
+numbers_texts find (Some w) None = on_error (no_number_text "FACTOR")
+numbers_texts find (Some w) (Some f) = on_output (found_text (find w f))
 
 -- what is written for a product and the words of its two numbers
 unfoldable pub factor_texts : Product → List ℕ → List ℕ → Texts

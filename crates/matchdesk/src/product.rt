@@ -5,12 +5,12 @@ ghost use Rattle.listing.specs.Promises.{TextWritten};
 ghost use Rattle.matchdesk.specs.Program.{product_for, factor_by, found_text, factor_texts};
 ghost use Rattle.matchdesk.specs.Promises.{Says};
 
-use crate::{Said, length_of};
+use crate::{Said, refused_line};
 use cells::refusal::Numbers;
-use factor::{Factor, factor_fx, factor_i32};
+use factor::{factor_fx, factor_i32};
 use input::words::same;
-use listing::{append, list_refused};
-use numbers::{Number, put_i32, read_i32};
+use listing::append;
+use numbers::{put_i32, read_i32};
 
 // Which product: that of two Fx, or that of two I32.
 #[derive(Clone, Copy)]
@@ -19,26 +19,16 @@ pub enum Product {
     I32,
 }
 
-// What a word says of it.
-#[derive(Clone, Copy)]
-pub enum Chosen {
-    By(Product),
-    Neither,
-}
-
-// The number of the refusal where there is no such factor.
-const NO_FACTOR: usize = 36;
-
-pub fn product_of(word: &[u8]) -> Chosen
+pub fn product_of(word: &[u8]) -> Option<Product>
     ensures { result ≡ product_for word.now }
 {
     if same(word, b"fx") {
-        return Chosen::By(Product::Fx);
+        return Some(Product::Fx);
     }
     if same(word, b"i32") {
-        return Chosen::By(Product::I32);
+        return Some(Product::I32);
     }
-    Chosen::Neither
+    None
 }
 
 // Reads the two numbers, and says the factor that is found, or which word is no i32. Texts stand as `run` has them.
@@ -53,35 +43,24 @@ pub fn find_factor(
     ensures prefix_len { IsPrefixLen result.output output.new × IsPrefixLen result.error error.new }
     ensures says { Says (factor_texts product wanted.now factor.now) output.old output.new error.old error.new result }
 {
-    let a = read_i32(wanted);
-    let Number::Value(w) = a else {
-        return Said {
-            output: 0,
-            error: append(
-                b"WANTED is no i32: a whole number from -2147483648 to 2147483647\n",
-                error,
-                0,
-            ),
-        };
+    let Some(w) = read_i32(wanted) else {
+        return Said::on_error(append(
+            b"WANTED is no i32: a whole number from -2147483648 to 2147483647\n",
+            error,
+            0,
+        ));
     };
-    let b = read_i32(factor);
-    let Number::Value(f) = b else {
-        return Said {
-            output: 0,
-            error: append(
-                b"FACTOR is no i32: a whole number from -2147483648 to 2147483647\n",
-                error,
-                0,
-            ),
-        };
+    let Some(f) = read_i32(factor) else {
+        return Said::on_error(append(
+            b"FACTOR is no i32: a whole number from -2147483648 to 2147483647\n",
+            error,
+            0,
+        ));
     };
-    Said {
-        output: put_found(factor_by(product, w, f), output),
-        error: 0,
-    }
+    Said::on_output(put_found(factor_by(product, w, f), output))
 }
 
-fn factor_by(product: Product, wanted: i32, factor: i32) -> Factor
+fn factor_by(product: Product, wanted: i32, factor: i32) -> Option<i32>
     ensures { result ≡ factor_by product wanted factor }
 {
     match product {
@@ -91,20 +70,20 @@ fn factor_by(product: Product, wanted: i32, factor: i32) -> Factor
 }
 
 // The line of the factor, or of the refusal.
-fn put_found(found: Factor, text: &mut [u8]) -> usize
+fn put_found(found: Option<i32>, text: &mut [u8]) -> usize
     requires { 71 ≤ length text.old }
     ensures prefix_len { IsPrefixLen result text.new }
     ensures text_written { TextWritten (found_text found) text.old text.new result }
 {
     match found {
-        Factor::Found(z) => put_i32(z, text),
-        Factor::NoFactor => {
+        Some(z) => put_i32(z, text),
+        None => {
             let numbers = Numbers {
-                number: NO_FACTOR,
+                number: factor::REFUSAL,
                 position: 0,
                 detail: 0,
             };
-            length_of(list_refused(numbers, text))
+            refused_line(numbers, text)
         }
     }
 }

@@ -2,21 +2,19 @@
 use mathlib.Core.Path.{◌≡◌, refl, sym, ◌∙◌, ap}
 use mathlib.Core.Bool.{Bool, true, false, cond, true≢false}
 use mathlib.Core.List.{List, [], ◌∷◌, ◌++◌}
-use mathlib.Core.Option.{Option, none, some}
 use Prim.Native.Nat.{ℕ, suc, ◌+◌, ◌<◌, ◌≤◌}
 use native.Mathlib.Omega.{arith}
-use borrow.Author.Tests.{lt-leb, le-leb}
+use borrow.Author.Tests.{lt-leb}
 use lib.Dec.{leb}
 use lib.ListN.{length, drop, replicate, length-replicate}
 use Rattle.cells.specs.Bytes.{word}
 use Rattle.cells.proofs.Facts.{by_test}
-use Rattle.release.specs.Frames.{Image, frame, images_of, count_as}
+use Rattle.release.specs.Frames.{Image, frame, images_of}
 use Rattle.release.specs.Release.{handed_back}
-use Rattle.release.specs.declared.Framing.TheVariants.{PastEnd, Images}
 use Rattle.release.proofs.Frames.{Next, next-whole}
-use Rattle.release.proofs.Images.{no_images, some_images}
 use Rattle.matchdesk_release.specs.Program.{max_release, image_texts, refused_texts, program_texts, OutputReleased, LongInputs}
 use Rattle.matchdesk_release.specs.Promises.{is_none, is_refused, Framed}
+use Rattle.std.specs.Prelude.{Some, None, Option}
 
 pub output-released : OutputReleased
 unfolding image_texts
@@ -32,23 +30,9 @@ long_inputs input kept h k = long_text kept k ∙ sym (long_text input h)
 
 -- ---- the test for 33
 
-pub too_long_lem : (s : List ℕ) → max_release < length s → true ≡ is_refused s
-unfolding is_refused
-too_long_lem s h = rw (lt-leb (length s) max_release h) refl
-
-within_limit : (s : List ℕ) → length s ≤ max_release → is_refused s ≡ is_none (images_of s)
-unfolding is_refused
-within_limit s h = rw (le-leb (length s) max_release h) refl
-
-pub past_end : (s : List ℕ) → length s ≤ max_release → count_as (images_of s) ≡ PastEnd → true ≡ is_refused s
-past_end s h e = sym (within_limit s h ∙ ap is_none (no_images (images_of s) e))
-
-pub has_images : (s : List ℕ) (n : ℕ) → length s ≤ max_release → count_as (images_of s) ≡ Images n → false ≡ is_refused s
-has_images s n h e = let (is, o, l) = some_images (images_of s) n e in sym (within_limit s h ∙ ap is_none o)
-
-is_some : (o : Option (List Image)) → is_none o ≡ false → (is : List Image) × (o ≡ some is)
-is_some none e = absurd (true≢false e)
-is_some (some is) e = (is, refl)
+is_some : (o : Option (List Image)) → is_none o ≡ false → (is : List Image) × (o ≡ Some is)
+is_some None e = absurd (true≢false e)
+is_some (Some is) e = (is, refl)
 
 pub not-refused : (s : List ℕ) → false ≡ is_refused s → Framed s
 unfolding is_refused
@@ -61,7 +45,7 @@ not-refused s e =
 
 pub record Writing (s out line : List ℕ) (at place : ℕ) : Type 0 where
   pub rest : List Image
-  pub left : images_of (drop at s) ≡ some rest
+  pub left : images_of (drop at s) ≡ Some rest
   pub within : at ≤ length s
   pub few : place ≤ at
   pub for_frame : length out ≡ 65540

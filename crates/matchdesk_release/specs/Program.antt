@@ -1,7 +1,6 @@
 -- Promise: what `./matchdesk release` writes to standard output and to standard error (document 02, W9): the framed output, and a line an image; or
 -- 33 alone. Its buffers are always long enough, so that only the framing and the length of the input decide.
-use Rattle.std.specs.Prelude.{◌≡◌, cond, List, [], ◌∷◌, ◌++◌, ℕ, suc, ◌<◌, eqb, leb, length}
-use Rattle.std.proofs.Math.Option.{Option, none, some}
+use Rattle.std.specs.Prelude.{◌≡◌, cond, List, [], ◌∷◌, ◌++◌, ℕ, suc, ◌<◌, eqb, leb, length, Option, None, Some}
 use Rattle.cells.specs.declared.refusal.Numbers.{Numbers}
 use Rattle.listing.specs.Places.{ascii}
 use Rattle.listing.specs.Text.{line_feed, blank, field, rewrites_line, refused_text}
@@ -45,8 +44,8 @@ abbrev pub refused_texts : Texts
 refused_texts = texts [] (ascii "refused 33" ++ line_feed ∷ [])
 
 abbrev pub texts_as : Option (List Image) → Texts
-texts_as none = refused_texts
-texts_as (some is) = images_texts 0 is
+texts_as None = refused_texts
+texts_as (Some is) = images_texts 0 is
 
 unfoldable pub program_texts : List ℕ → Texts
 program_texts s = cond (leb (length s) max_release) (texts_as (images_of s)) refused_texts

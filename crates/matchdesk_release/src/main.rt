@@ -2,7 +2,7 @@
 // standard error. Images are rewritten one by one, so that besides the input only one image is held.
 #![tactic(auto)]
 
-ghost use Rattle.std.specs.Prelude.{◌≡◌, ◌≤◌, length, replicate};
+ghost use Rattle.std.specs.Prelude.{◌≡◌, ◌≤◌, length};
 ghost use Rattle.input.specs.Prefix.{IsPrefixLen};
 ghost use Rattle.listing.specs.Promises.{TextWritten};
 ghost use Rattle.matchdesk_release.specs.Program.{answer_text, image_line, image_texts};
@@ -11,10 +11,9 @@ ghost use Rattle.matchdesk_release.specs.Promises.{is_refused, Framed, Says};
 use cells::check::MAX_IMAGE;
 use cells::read;
 use cells::refusal::Numbers;
-use input::Input;
 use input::report::fail;
 use input::words::{arg, arg_count, same};
-use release::Framing;
+use input::zeros;
 use release::place::{ANSWER, NUMBER};
 use std::io;
 use std::rt::Env;
@@ -45,21 +44,16 @@ fn main(rt: HostRuntime) {
         let _ = err.write_all(b"usage: matchdesk_release release < images\n");
         return;
     }
-    let mut buffer = input_buffer();
+    let mut buffer = zeros::<INPUT>();
     match input::read_to_end(&rt, &mut buffer, 0, MAX_RELEASE) {
-        Input::Bytes(n) => answer(&out, &err, &buffer[..n]),
-        Input::InputFailed(error) => fail(&err, b"standard input", error),
+        Ok(n) => answer(&out, &err, &buffer[..n]),
+        Err(error) => fail(&err, b"standard input", error),
     }
 }
 
 // Whether the one argument is `release`.
 fn is_asked(rt: &impl Env) -> bool {
-    if arg_count(rt) != 2 {
-        return false;
-    }
-    let mut word = [0u8; 16];
-    let m = arg(rt, 1, &mut word);
-    same(&word[..m], b"release")
+    arg_count(rt) == 2 && same(arg(rt, 1, &mut [0; 16]), b"release")
 }
 
 fn answer(out: &impl Print, err: &impl Print, input: &[u8]) {
@@ -73,26 +67,20 @@ fn answer(out: &impl Print, err: &impl Print, input: &[u8]) {
 }
 
 // 33: the input is too long, or a length or an image goes past its end.
+#[tactic(auto, unfolding(crate::specs::Promises::is_refused))]
 fn is_refused(input: &[u8]) -> bool
     ensures { result ≡ is_refused input.now }
 {
-    if MAX_RELEASE < input.len() {
-        return true;
-    }
-    let framing = release::count_images(input);
-    match framing {
-        Framing::PastEnd => true,
-        Framing::Images(_) => false,
-    }
+    MAX_RELEASE < input.len() || release::count_images(input).is_none()
 }
 
 // Says each image's texts, in order, as long as standard output takes them. No contract can say what is written; of each image it is what
-// `say_image` promises.
+// `say_image` promises. (A `while`: each image says where the next one starts.)
 fn write_images(out: &impl Print, err: &impl Print, release: &[u8]) -> io::Result<()>
     requires { Framed release.now }
 {
-    let mut frame = frame_buffer();
-    let mut line = line_buffer();
+    let mut frame = zeros::<FRAME>();
+    let mut line = zeros::<LINE>();
     let mut at: usize = 0;
     let mut place: usize = 0;
     while at < release.len() {
@@ -100,10 +88,8 @@ fn write_images(out: &impl Print, err: &impl Print, release: &[u8]) -> io::Resul
         let start = at + NUMBER;
         let end = start + size;
         let said = say_image(place, &release[start..end], &mut frame, &mut line);
-        let a = said.output;
-        let b = said.error;
-        out.write_all(&frame[..a])?;
-        let _ = err.write_all(&line[..b]);
+        out.write_all(&frame[..said.output])?;
+        let _ = err.write_all(&line[..said.error]);
         at = end;
         place += 1;
     }
@@ -145,23 +131,5 @@ fn put_answer(x: Numbers, text: &mut [u8]) -> usize
     if x.number == 0 {
         return listing::put_rewrites(x.position, text);
     }
-    listing::put_refused(x.number, x.position, x.detail, text)
-}
-
-fn input_buffer() -> [u8; INPUT]
-    ensures { result ≡ replicate 4259840 0 }
-{
-    [0; INPUT]
-}
-
-fn frame_buffer() -> [u8; FRAME]
-    ensures { result ≡ replicate 65540 0 }
-{
-    [0; FRAME]
-}
-
-fn line_buffer() -> [u8; LINE]
-    ensures { result ≡ replicate 92 0 }
-{
-    [0; LINE]
+    listing::put_refused(x, text)
 }

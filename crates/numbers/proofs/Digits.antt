@@ -14,17 +14,14 @@ use Rattle.cells.proofs.Facts.{by_test, and_true}
 use Rattle.listing.specs.Decimal.{value_from, value}
 use Rattle.numbers.specs.Numbers.{plus, minus, is_digit, all_digits, with_sign, ranged, number_of, number_in}
 use Rattle.numbers.specs.Sizes.{size_up_to, size_from, size_in}
-use Rattle.numbers.specs.declared.Number.{Number}
-use Rattle.numbers.specs.declared.Number.TheVariants.{NoNumber}
-use Rattle.numbers.specs.declared.Size.{Size}
-use Rattle.numbers.specs.declared.Size.TheVariants.{Is, NoSize}
+use Rattle.std.specs.Prelude.{ℤ, Option, Some, None}
 
 pub digit_bounds : (b : ℕ) → is_digit b ≡ true → (48 ≤ b) × (b ≤ 57)
 digit_bounds b e = let t = and_true (leb 48 b) (leb b 57) e in (leb-true 48 b t.0, leb-true b 57 t.1)
 
 -- ---- a turn of the loop
 
-not_digit : (n b : ℕ) (s : List ℕ) → is_digit b ≡ false → size_from n (b ∷ s) ≡ NoSize
+not_digit : (n b : ℕ) (s : List ℕ) → is_digit b ≡ false → size_from n (b ∷ s) ≡ None
 unfolding size_from
 not_digit n b s e = rw e
 
@@ -37,7 +34,7 @@ value_grows n [] = le_refl n
 value_grows n (d ∷ s) = le_trans (omega arith) (value_grows (10 * n + (d - 48)) s)
 
 -- past the greatest size, digits and anything else come to the same
-past : (n : ℕ) (s : List ℕ) → 2147483648 < n → size_from n s ≡ NoSize
+past : (n : ℕ) (s : List ℕ) → 2147483648 < n → size_from n s ≡ None
 unfolding size_from
 past n s h = by_test (all_digits s) (λ t. rw (t, lt-leb (value_from n s) 2147483648 (omega (arith, value_grows n s)))) (λ t. rw t)
 
@@ -60,35 +57,35 @@ module _ {s : List ℕ} {n i : ℕ} (r : Reading s n i) where
     at : size_from n (get_or s i 0 ∷ drop (suc i) s) ≡ size_in s
     at = ap (size_from n) (sym (drop-cons s i 0 h)) ∙ r.same
 
-    pub reading_not : is_digit (get_or s i 0) ≡ false → NoSize ≡ size_in s
+    pub reading_not : is_digit (get_or s i 0) ≡ false → None ≡ size_in s
     reading_not e = sym (not_digit n (get_or s i 0) (drop (suc i) s) e) ∙ at
 
     on : is_digit (get_or s i 0) ≡ true → size_from (10 * n + (get_or s i 0 - 48)) (drop (suc i) s) ≡ size_in s
     on e = sym (next-digit n (get_or s i 0) (drop (suc i) s) e) ∙ at
 
-    pub reading_past : is_digit (get_or s i 0) ≡ true → 2147483648 < 10 * n + (get_or s i 0 - 48) → NoSize ≡ size_in s
+    pub reading_past : is_digit (get_or s i 0) ≡ true → 2147483648 < 10 * n + (get_or s i 0 - 48) → None ≡ size_in s
     reading_past e l = sym (past (10 * n + (get_or s i 0 - 48)) (drop (suc i) s) l) ∙ on e
 
     pub reading_next : is_digit (get_or s i 0) ≡ true → 10 * n + (get_or s i 0 - 48) ≤ 2147483648 → Reading s (10 * n + (get_or s i 0 - 48)) (i + 1)
     reading_next e l = record { some = r.some; within = omega arith; most = l; same = rw (add-one i) (on e) }
 
-  pub reading_all : length s ≤ i → Is n ≡ size_in s
+  pub reading_all : length s ≤ i → Some n ≡ size_in s
   unfolding size_from
   reading_all l =
-      let t : size_from n [] ≡ Is n = rw (le-leb n 2147483648 r.most) in
+      let t : size_from n [] ≡ Some n = rw (le-leb n 2147483648 r.most) in
       sym t ∙ ap (size_from n) (sym (drop_of_length-le s l)) ∙ r.same
 
-pub size-empty : (s : List ℕ) → length s ≡ 0 → NoSize ≡ size_in s
+pub size-empty : (s : List ℕ) → length s ≡ 0 → None ≡ size_in s
 size-empty [] h = refl
 size-empty (b ∷ s) h = absurd (omega arith)
 
 -- ---- the number, by its size
 
-abbrev by_size : Bool → Size → Number
-by_size negative (Is n) = ranged (with_sign negative n)
-by_size negative NoSize = NoNumber
+abbrev by_size : Bool → Option ℕ → Option ℤ
+by_size negative (Some n) = ranged (with_sign negative n)
+by_size negative None = None
 
-too_large : (negative : Bool) (n : ℕ) → 2147483648 < n → ranged (with_sign negative n) ≡ NoNumber
+too_large : (negative : Bool) (n : ℕ) → 2147483648 < n → ranged (with_sign negative n) ≡ None
 too_large true zero h = absurd (omega arith)
 too_large true (suc n) h = rw (le-ltb n 2147483648 (omega arith))
 too_large false n h = rw (le-ltb n 2147483648 (omega arith))
@@ -103,9 +100,9 @@ number_by-size negative [] = refl
 number_by-size negative (b ∷ s) =
     by_test (all_digits (b ∷ s)) (λ t. rw t (sym (by-size_from negative (value (b ∷ s))))) (λ t. rw t)
 
-abbrev AtMost : Size → Type 0
-AtMost (Is n) = n ≤ 2147483648
-AtMost NoSize = Unit {0}
+abbrev AtMost : Option ℕ → Type 0
+AtMost (Some n) = n ≤ 2147483648
+AtMost None = Unit {0}
 
 up_to_most : (n : ℕ) → AtMost (size_up_to n)
 up_to_most n = by_test (leb n 2147483648) (λ t. rw t (leb-true n 2147483648 t)) (λ t. rw t tt)
@@ -115,22 +112,17 @@ unfolding size_from
 size-most [] = tt
 size-most (b ∷ s) = by_test (all_digits (b ∷ s)) (λ t. rw t (up_to_most (value (b ∷ s)))) (λ t. rw t tt)
 
-module _ (s : List ℕ) {r : Size} (e : r ≡ size_in s) where
-  pub number_none : (negative : Bool) → r ≡ NoSize → NoNumber ≡ number_of negative s
+module _ (s : List ℕ) {r : Option ℕ} (e : r ≡ size_in s) where
+  pub number_none : (negative : Bool) → r ≡ None → None ≡ number_of negative s
   number_none negative f = ap (by_size negative) (sym f ∙ e) ∙ sym (number_by-size negative s)
 
-  pub number_some : (negative : Bool) (n : ℕ) → r ≡ Is n → ranged (with_sign negative n) ≡ number_of negative s
+  pub number_some : (negative : Bool) (n : ℕ) → r ≡ Some n → ranged (with_sign negative n) ≡ number_of negative s
   number_some negative n f = ap (by_size negative) (sym f ∙ e) ∙ sym (number_by-size negative s)
 
-  pub number_most : (n : ℕ) → r ≡ Is n → n ≤ 2147483648
+  pub number_most : (n : ℕ) → r ≡ Some n → n ≤ 2147483648
   number_most n f = subst AtMost (sym e ∙ f) (size-most s)
 
 -- ---- a word, by its first byte
-
-pub word-empty : (s : List ℕ) → length s ≡ 0 → NoNumber ≡ number_in s
-unfolding number_in
-word-empty [] h = refl
-word-empty (b ∷ s) h = absurd (omega arith)
 
 -- what stands behind it
 rest : (b : ℕ) (s : List ℕ) → take (length (b ∷ s) - 1) (drop 1 (b ∷ s)) ≡ s
@@ -149,7 +141,8 @@ word-plus [] h e = absurd (omega arith)
 word-plus (b ∷ s) h e =
     rw (ne_eqb b minus (λ m. let z : ◌≡◌ {A = ℕ} 43 45 = sym e ∙ m in omega arith), eq-eqb b plus e) (ap (number_of false) (rest b s))
 
-pub word-plain : (s : List ℕ) → 0 < length s → (get_or s 0 0 ≡ minus → ⊥) → (get_or s 0 0 ≡ plus → ⊥) → number_of false s ≡ number_in s
+-- no sign, or no byte at all
+pub word-plain : (s : List ℕ) → (0 < length s → get_or s 0 0 ≡ minus → ⊥) → (0 < length s → get_or s 0 0 ≡ plus → ⊥) → number_of false s ≡ number_in s
 unfolding number_in
-word-plain [] h m p = absurd (omega arith)
-word-plain (b ∷ s) h m p = rw (ne_eqb b minus m, ne_eqb b plus p)
+word-plain [] m p = refl
+word-plain (b ∷ s) m p = rw (ne_eqb b minus (m (omega arith)), ne_eqb b plus (p (omega arith)))

@@ -4,22 +4,26 @@ use mathlib.Core.Bool.{true, false}
 use mathlib.Core.List.{List, [], ◌∷◌, ◌++◌}
 use Prim.Native.Nat.{ℕ, ◌≤◌, ◌<◌}
 use native.Mathlib.Omega.{arith}
-use borrow.Author.Tests.{ltb-true}
+use borrow.Author.Tests.{ltb-true, lt-ltb}
+use Rattle.std.specs.Prelude.{Result, Ok, Err}
+use Rattle.std.specs.Result.{OkIff, result_ok}
+use Rattle.cells.proofs.Facts.{by_test}
+use Rattle.leaves.specs.Signed.{in_i32}
 use lib.Dec.{T}
 use lib.ListN.{length, take, length-append}
 use lib.IntN.{ℤ, pos, negsuc, neg_ℤ, nat_abs, ◌-ℤ◌, +ℤ_idl}
-use lib.Signed.{lt_z}
+use lib.Signed.{lt_z, mag}
 use mir.Syntax.{w32, w64}
 use mir.Val.{SFits, of_z, to_z}
 use mir.Facts.{to_z-of_z}
 use Rattle.leaves.proofs.Integers.{fits64}
-use Rattle.leaves.proofs.Ranges.{abs_neg, small}
+use Rattle.leaves.proofs.Ranges.{abs_neg, small, sfits_in}
 use Rattle.listing.specs.Decimal.{decimal}
 use Rattle.listing.specs.Promises.{TextWritten}
 use Rattle.listing.specs.Text.{line_feed}
 use Rattle.listing.proofs.Numerals.{length-decimal}
 use Rattle.listing.proofs.Pieces.{written_next}
-use Rattle.numbers.specs.Numbers.{minus, signed}
+use Rattle.numbers.specs.Numbers.{minus, ranged, signed}
 use Rattle.numbers.specs.Sizes.{sign_of}
 
 -- a number that 64 bits hold is what they say
@@ -49,6 +53,11 @@ module _ (n : ℕ) (h : n ≤ 2147483648) where
 
   pub negative-kept : to_z w64 (of_z w64 (pos 0 -ℤ to_z w64 (of_z w64 (pos n)))) ≡ neg_ℤ (pos n)
   negative-kept = kept bound negated
+
+-- what the standard library's conversion to an i32 makes of a number
+pub narrowed : {E : Type 0} (r : Result ℤ E) (z : ℤ) → OkIff r (SFits w32 z) z → result_ok r ≡ ranged z
+narrowed (Ok x) z h = rw (lt-ltb (mag z) 2147483648 h.0.sfits, h.1)
+narrowed (Err e) z h = by_test (in_i32 z) (λ t. absurd (h (sfits_in z t))) (λ t. rw t)
 
 -- ---- its text
 

@@ -1,9 +1,7 @@
 -- Promise: which i32 a word says, as Rust's `i32::from_str` reads it, and how an i32 is written.
-use Rattle.std.specs.Prelude.{◌≡◌, Bool, true, false, cond, ◌&&◌, List, [], ◌∷◌, ℕ, suc, leb, eqb, ℤ, pos, negsuc, neg_ℤ}
+use Rattle.std.specs.Prelude.{◌≡◌, Bool, true, false, cond, ◌&&◌, List, [], ◌∷◌, ℕ, suc, leb, eqb, ℤ, pos, negsuc, neg_ℤ, Option, Some, None}
 use Rattle.leaves.specs.Signed.{in_i32}
 use Rattle.listing.specs.Decimal.{decimal, value}
-use Rattle.numbers.specs.declared.Number.{Number}
-use Rattle.numbers.specs.declared.Number.TheVariants.{Value, NoNumber}
 
 -- `+` and `-`
 abbrev pub plus : ℕ
@@ -33,16 +31,16 @@ with_sign true n = neg_ℤ (pos n)
 with_sign false n = pos n
 
 -- a number in the range of an i32, -2147483648 to 2147483647
-abbrev pub ranged : ℤ → Number
-ranged z = cond (in_i32 z) (Value z) NoNumber
+abbrev pub ranged : ℤ → Option ℤ
+ranged z = cond (in_i32 z) (Some z) None
 
 -- what stands behind the sign
-abbrev pub number_of : Bool → List ℕ → Number
-number_of negative s = cond (is_numeral s) (ranged (with_sign negative (value s))) NoNumber
+abbrev pub number_of : Bool → List ℕ → Option ℤ
+number_of negative s = cond (is_numeral s) (ranged (with_sign negative (value s))) None
 
 -- a word: an optional `+` or `-`, then digits
-unfoldable pub number_in : List ℕ → Number
-number_in [] = NoNumber
+unfoldable pub number_in : List ℕ → Option ℤ
+number_in [] = None
 number_in (b ∷ s) = cond (eqb b minus) (number_of true s) (cond (eqb b plus) (number_of false s) (number_of false (b ∷ s)))
 
 -- ---- written
@@ -54,4 +52,4 @@ signed (negsuc n) = minus ∷ decimal (suc n)
 
 -- what is written of an i32 is read back as it (proved in numbers/proofs/ReadBack.antt)
 abbrev pub ReadBack : Type 0
-ReadBack = (z : ℤ) → in_i32 z ≡ true → number_in (signed z) ≡ Value z
+ReadBack = (z : ℤ) → in_i32 z ≡ true → number_in (signed z) ≡ Some z

@@ -11,11 +11,12 @@ use Rattle.cells.specs.declared.refusal.Refusal.TheVariants.{Length}
 use Rattle.packed.specs.Form.{Role, Head, Code, Event, size}
 use Rattle.packed.specs.Reading.{Result, bytes, refused, ends, and_then, finished, next_cell, read_cell, next_position, unpack_from, unpacked}
 use Rattle.packed.specs.Steps.{counted, taken, taken_as, run_of, sizes_of, taken_run}
-use Rattle.packed.specs.declared.Packing.{Packing}
-use Rattle.packed.specs.declared.Packing.TheVariants.{Bytes, Refused}
 use Rattle.packed.proofs.Widths.{cell-length}
 use Rattle.packed.proofs.Walk.{cell_read, then_bytes, then_nil, then_then, step_done, step_full, step-more}
 use Rattle.packed.proofs.Turns.{Went}
+use Rattle.std.specs.Prelude.{Ok, Err}
+use Rattle.packed.specs.Answer.{Packing}
+use Rattle.packed.specs.declared.PackingError.TheVariants.{Refused}
 
 -- ---- promised cells of one role, before others
 
@@ -96,14 +97,14 @@ run-good r (suc n) (suc room) p d s b e =
       omega (arith, c.fits, g.2, length-drop (size r s) s),
     )
 
-ran_by : (r : Role) (n p d : ℕ) (s : List ℕ) (k : ℕ) (t : Result) → run_of r n (4096 - d) p d s ≡ t → Bytes k ≡ taken t (sizes_of r n s) → Ran r n p d s k
+ran_by : (r : Role) (n p d : ℕ) (s : List ℕ) (k : ℕ) (t : Result) → run_of r n (4096 - d) p d s ≡ t → Ok k ≡ taken t (sizes_of r n s) → Ran r n p d s k
 ran_by r n p d s k (bytes b) i e =
     let g = run-good r n (4096 - d) p d s b i in
     record { b = b; is = i; takes = cc; room = g.0; long = g.1; fits = g.2 }
 ran_by r n p d s k (refused x) i e = let z : ◌≡◌ {A = ℕ} 0 1 = cc in absurd (omega arith)
 ran_by r n p d s k (ends q c) i e = let z : ◌≡◌ {A = ℕ} 0 1 = cc in absurd (omega arith)
 
-pub ran : (r : Role) (n p d : ℕ) (s : List ℕ) (k : ℕ) → Bytes k ≡ taken_run r n p d s → Ran r n p d s k
+pub ran : (r : Role) (n p d : ℕ) (s : List ℕ) (k : ℕ) → Ok k ≡ taken_run r n p d s → Ran r n p d s k
 ran r n p d s k e = ran_by r n p d s k (run_of r n (4096 - d) p d s) refl e
 
 -- ---- the whole, where this has been read and that comes next
@@ -111,7 +112,7 @@ ran r n p d s k e = ran_by r n p d s k (run_of r n (4096 - d) p d s) refl e
 abbrev Left : List ℕ → List ℕ → Result → Type 0
 Left s b t = unpacked s ≡ and_then (bytes b) t
 
-left_fault : (s b : List ℕ) (t u : Result) (k : ℕ) (x : Packing) → Left s b (and_then t u) → x ≡ taken t k → ((n : ℕ) → x ≡ Bytes n → ⊥) → x ≡ counted (unpacked s)
+left_fault : (s b : List ℕ) (t u : Result) (k : ℕ) (x : Packing) → Left s b (and_then t u) → x ≡ taken t k → ((n : ℕ) → x ≡ Ok n → ⊥) → x ≡ counted (unpacked s)
 left_fault s b (bytes a) u k x l e h = absurd (h k e)
 left_fault s b (refused y) u k x l e h = e ∙ sym (ap counted l)
 left_fault s b (ends p d) u k x l e h = e ∙ sym (ap counted l)
@@ -143,16 +144,16 @@ module _ (s : List ℕ) (p at d : ℕ) (g : Going s p at d) where
   abbrev left : List ℕ
   left = drop at s
 
-  pub going_end : length s ≤ at → Bytes (16 * d) ≡ counted (unpacked s)
+  pub going_end : length s ≤ at → Ok (16 * d) ≡ counted (unpacked s)
   going_end h =
       let f : finished [] left ≡ true = none_left left (omega (arith, length-drop at s)) in
-      sym (ap counted (g.says ∙ ap (and_then (bytes g.done)) (step_done p d [] left (4096 - d) f)) ∙ ap (λ (b : List ℕ). Bytes (length b)) (append-nil g.done) ∙ ap Bytes g.long)
+      sym (ap counted (g.says ∙ ap (and_then (bytes g.done)) (step_done p d [] left (4096 - d) f)) ∙ ap (λ (b : List ℕ). Ok (length b)) (append-nil g.done) ∙ ap Ok g.long)
 
   module _ (h : at < length s) where
     more : finished [] left ≡ false
     more = some_left left (omega (arith, length-drop at s))
 
-    pub going_full : d ≡ 4096 → Refused Length ≡ counted (unpacked s)
+    pub going_full : d ≡ 4096 → Err (Refused Length) ≡ counted (unpacked s)
     going_full e =
         let z : 4096 - d ≡ 0 = omega arith in
         sym (ap counted (g.says ∙ ap (λ (j : ℕ). and_then (bytes g.done) (unpack_from j p d [] left)) z ∙ ap (and_then (bytes g.done)) (step_full p d [] left more)))
@@ -181,7 +182,7 @@ module _ (s : List ℕ) (p at d : ℕ) (g : Going s p at d) where
           let z : 4096 - d ≡ suc room₁ = omega arith in
           g.says ∙ ap (λ (j : ℕ). and_then (bytes g.done) (unpack_from j p d [] left)) z ∙ ap (and_then (bytes g.done)) (function_from_lem room₁ p d left more)
 
-      pub head_fault : (x : Packing) → x ≡ taken_as Head p d left → ((n : ℕ) → x ≡ Bytes n → ⊥) → x ≡ counted (unpacked s)
+      pub head_fault : (x : Packing) → x ≡ taken_as Head p d left → ((n : ℕ) → x ≡ Ok n → ⊥) → x ≡ counted (unpacked s)
       head_fault x e f = left_fault s g.done (read_cell Head p d left) behind_head (size Head left) x at_head e f
 
       module _ (k : ℕ) (w : Went Head p d left k) where
@@ -195,7 +196,7 @@ module _ (s : List ℕ) (p at d : ℕ) (g : Going s p at d) where
         pub behind-head : at + k ≤ length s
         behind-head = omega (arith, w.fits, length-drop at s, g.within)
 
-        pub code_fault : (x : Packing) → x ≡ taken_run Code n₁ p (d + 1) (drop (at + k) s) → ((n : ℕ) → x ≡ Bytes n → ⊥) → x ≡ counted (unpacked s)
+        pub code_fault : (x : Packing) → x ≡ taken_run Code n₁ p (d + 1) (drop (at + k) s) → ((n : ℕ) → x ≡ Ok n → ⊥) → x ≡ counted (unpacked s)
         code_fault x e f =
             left_fault s (g.done ++ next_cell Head left) (run_of Code n₁ room₁ p (d + 1) (after_head left)) behind_code (sizes_of Code n₁ (after_head left)) x at_code
             (e ∙ ap (taken_run Code n₁ p (d + 1)) (sym code_left)) f
@@ -220,7 +221,7 @@ module _ (s : List ℕ) (p at d : ℕ) (g : Going s p at d) where
           events_run : run_of Event m₁ (room₁ - n₁) p (d + 1 + n₁) (after_code left) ≡ run_of Event m₁ (4096 - (d + 1 + n₁)) p (d + 1 + n₁) (drop (at + k + k₂) s)
           events_run = ap₂ (λ (j : ℕ) (x : List ℕ). run_of Event m₁ j p (d + 1 + n₁) x) room_is events_left
 
-          pub event_fault : (x : Packing) → x ≡ taken_run Event m₁ p (d + 1 + n₁) (drop (at + k + k₂) s) → ((n : ℕ) → x ≡ Bytes n → ⊥) → x ≡ counted (unpacked s)
+          pub event_fault : (x : Packing) → x ≡ taken_run Event m₁ p (d + 1 + n₁) (drop (at + k + k₂) s) → ((n : ℕ) → x ≡ Ok n → ⊥) → x ≡ counted (unpacked s)
           event_fault x e f =
               left_fault s ((g.done ++ next_cell Head left) ++ c.b) (run_of Event m₁ (room₁ - n₁) p (d + 1 + n₁) (after_code left)) behind_events
               (sizes_of Event m₁ (drop (at + k + k₂) s)) x at_events

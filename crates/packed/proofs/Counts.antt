@@ -67,7 +67,7 @@ events_turn s m total i k =
     }
 
 pub counting_turn : (s : List ℕ) (code events total i : ℕ) → Counting s code events total i → (c : Cell) → i < length s / 16 → c ≡ get_or (cells s) i []
-    → Counting s (counted_at code events c).code (counted_at code events c).events (total + (counted_at code events c).size) (i + (counted_at code events c).cells)
+    → Counting s (counted_at code events c).due.code (counted_at code events c).due.events (total + (counted_at code events c).size) (i + (counted_at code events c).cells)
 counting_turn s (suc n) m total i k c h is =
     let w = one_turn s (promise (suc n) m) total i c h is k.says k.fine k.small in record { says = w.0; fine = w.1; small = w.2 }
 counting_turn s zero (suc m) total i k c h is = events_turn s (suc m) total i k
@@ -88,13 +88,13 @@ counted-there s zero zero total i k c h = (omega arith, omega arith)
 -- ---- what the code counts
 
 abbrev counted : ℕ → ℕ → ℕ → ℕ → Counted
-counted cells n code events = record { cells = cells; size = n; code = code; events = events }
+counted cells n code events = record { cells = cells; size = n; due = record { code = code; events = events } }
 
 pub counted_code : (code events n : ℕ) (c : Cell) → (code ≡ 0 → ⊥) → n ≡ size Code c → counted 1 n (code - 1) events ≡ counted_at code events c
 counted_code zero events n c h e = absurd (h refl)
 counted_code (suc k) events n c h e = let f : suc k - 1 ≡ k = omega arith in rw (e, f)
 
-pub counted_events : (code events : ℕ) (c : Cell) → code ≡ 0 → (events ≡ 0 → ⊥) → counted events (15 * events) code 0 ≡ counted_at code events c
+pub counted_events : (code events : ℕ) (c : Cell) → code ≡ 0 → (events ≡ 0 → ⊥) → counted events (15 * events) 0 0 ≡ counted_at code events c
 counted_events code zero c z h = absurd (h refl)
 counted_events code (suc m) c z h = rw z
 

@@ -12,7 +12,6 @@ use Rattle.cells.specs.Check.{code_count, event_count, head_check, max_image}
 use Rattle.cells.specs.Functions.{Function, function_at, behind as past, functions, cells_of, cells_of_all, there}
 use Rattle.cells.specs.Lists.{All}
 use Rattle.cells.specs.WellFormed.{WellFormed, InstructionGood, EventGood}
-use Rattle.cells.specs.declared.refusal.Checked.TheVariants.{Good}
 use Rattle.cells.proofs.Checks.{head_fits, head_room}
 use Rattle.cells.proofs.Functions.{functions_nil, functions_cons, cells_of_functions}
 use Rattle.cells.proofs.Lists.{all_append, all_both, all_each, all_parts}
@@ -20,6 +19,7 @@ use Rattle.image.specs.Image.{GoodImage}
 use Rattle.image.proofs.Again.{image_formed, formed_image}
 use Rattle.packed.specs.Form.{Role, Code, Event, due_behind}
 use Rattle.packed.proofs.Walk.{Right, Fine}
+use Rattle.std.specs.Prelude.{Ok}
 
 -- ---- a run of cells of one role
 
@@ -42,7 +42,7 @@ fine_run r (suc n) due (c ∷ cs) f =
 -- ---- a good image's cells are fine
 
 -- a head is right with room for just what it promises
-head_own : (p d after : ℕ) (h : Cell) → head_check p d after h ≡ Good → head_check p d (code_count h + event_count h) h ≡ Good
+head_own : (p d after : ℕ) (h : Cell) → head_check p d after h ≡ Ok tt → head_check p d (code_count h + event_count h) h ≡ Ok tt
 head_own p d after h g =
     let n : ℕ = code_count h + event_count h in
     let fits = (head_fits p d after h g).2 in

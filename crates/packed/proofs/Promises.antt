@@ -25,7 +25,7 @@ nothing_due n m e f = rw (e, f)
 -- ---- the next cell
 
 abbrev pub next : ℕ → ℕ → ℕ → Next
-next n code events = record { size = n; code = code; events = events }
+next n code events = record { size = n; due = record { code = code; events = events } }
 
 module _ (code events : ℕ) (s : List ℕ) where
   pub next_code : (n : ℕ) → (code ≡ 0 → ⊥) → n ≡ row_size (byte s 0) → NextCell code events s (next n (code - 1) events)

@@ -23,10 +23,7 @@ over-all b out e = ap (λ (t : List ℕ). b ++ t) (drop_of_length-le out {i = le
 pub rest_is : (s : List ℕ) (at : ℕ) → take (length s - at) (drop at s) ≡ drop at s
 rest_is s at = take_all (length s - at) (drop at s) (omega (arith, length-drop at s))
 
--- copied to an array: its first bytes, or all of it
-pub part_copy : (b own t : List ℕ) (w : ℕ) → length b ≡ w → t ≡ take (length b) b ++ drop (length b) own → take w t ≡ b
-part_copy b own t w n e = ap₂ take (sym n) (e ∙ copied b own) ∙ over-take b own
-
+-- copied to an array of its length
 pub own_copy : (b own t : List ℕ) → length b ≡ length own → t ≡ take (length b) b ++ drop (length b) own → t ≡ b
 own_copy b own t n e = e ∙ copied b own ∙ over-all b own n
 
@@ -61,24 +58,23 @@ module _ (s out : List ℕ) (w k : ℕ) (few : w ≤ k) (most : k ≤ w + w) (th
       ap (λ (t : List ℕ). t ++ take (k - (k - w)) (drop (k - w) s)) (take-take (k - w) w s (omega arith))
       ∙ sym (take-add (k - w) (k - (k - w)) s) ∙ ap (λ (j : ℕ). take j s) e
 
-  -- each by way of the first w bytes of an array
-  pub two_ends : (own₁ own₂ first last mid part : List ℕ)
+  -- each by way of an array
+  pub two_ends : (own₁ own₂ first last mid part : List ℕ) → length own₁ ≡ w → length own₂ ≡ w
       → first ≡ take (length (take w s)) (take w s) ++ drop (length (take w s)) own₁
       → last ≡ take (length (take (k - (k - w)) (drop (k - w) s))) (take (k - (k - w)) (drop (k - w) s)) ++ drop (length (take (k - (k - w)) (drop (k - w) s))) own₂
-      → mid ≡ take (length (take w first)) (take w first) ++ drop (length (take w first)) out
-      → part ≡ take (length (take w last)) (take w last) ++ drop (length (take w last)) (take (length mid - (k - w)) (drop (k - w) mid))
+      → mid ≡ take (length first) first ++ drop (length first) out
+      → part ≡ take (length last) last ++ drop (length last) (take (length mid - (k - w)) (drop (k - w) mid))
       → take (k - w) mid ++ (part ++ drop (length mid - (k - w)) (drop (k - w) mid)) ≡ over (take k s) out
-  two_ends own₁ own₂ first last mid part e f g h =
+  two_ends own₁ own₂ first last mid part n₁ n₂ e f g h =
       let at : ℕ = k - w in
       let z = take (k - at) (drop at s) in
       let lw : length (take w s) ≡ w = length-take-le w s (omega arith) in
       let lz : length z ≡ w = length-take-le (k - at) (drop at s) (omega (arith, length-drop at s)) ∙ omega arith in
-      let i : take w first ≡ take w s = part_copy (take w s) own₁ first w lw e in
-      let j : take w last ≡ z = part_copy z own₂ last w lz f in
-      let m : mid ≡ over (take w s) out = g ∙ copied (take w first) out ∙ ap (λ (t : List ℕ). over t out) i in
-      let lm : length mid ≡ length out = ap length m ∙ length_over (take w s) out (omega arith) in
-      put-behind (take w s) z out mid part at (omega arith) (omega arith) (omega arith) m
-      (h ∙ copied (take w last) (take (length mid - at) (drop at mid)) ∙ ap (λ (t : List ℕ). over t (take (length mid - at) (drop at mid))) j)
+      let i : first ≡ take w s = own_copy (take w s) own₁ first (lw ∙ sym n₁) e in
+      let j : last ≡ z = own_copy z own₂ last (lz ∙ sym n₂) f in
+      let m : mid ≡ over (take w s) out = g ∙ copied first out ∙ ap (λ (t : List ℕ). over t out) i in
+      put-behind (take w s) z out mid part at (omega arith) (omega arith) (omega (arith, ap length m, length_over (take w s) out (omega arith))) m
+      (h ∙ copied last (take (length mid - at) (drop at mid)) ∙ ap (λ (t : List ℕ). over t (take (length mid - at) (drop at mid))) j)
       ∙ ap (λ (t : List ℕ). over t out) ends_are
 
 -- ---- the start of a cell
@@ -151,12 +147,6 @@ put-padded b out l =
     ∙ sym (append_assoc b (replicate (16 - length b) 0) (drop (length (padded b)) out))
 
 module _ (s : List ℕ) (k : ℕ) (out : List ℕ) where
-  pub restored_few : length s < 16 → put_restored s k out ≡ over (padded (take k s)) out
-  restored_few h = rw (lt-ltb _ _ h)
-
-  pub restored_last : 16 ≤ length s → length out < 32 → put_restored s k out ≡ over (padded (take k s)) out
-  restored_last h l = rw (le-ltb _ _ h, lt-ltb _ _ l)
-
   pub restored_more : 16 ≤ length s → 32 ≤ length out → put_restored s k out ≡ over (take k s ++ replicate 16 0) out
   restored_more h l = rw (le-ltb _ _ h, le-ltb _ _ l)
 

@@ -4,7 +4,7 @@ use mathlib.Core.List.{List, [], ◌∷◌, ◌++◌, append_assoc, append-nil}
 use Prim.Native.Nat.{ℕ, zero, suc, ◌+◌, ◌-◌, ◌*◌, ◌≤◌, ◌<◌}
 use native.Mathlib.Omega.{arith}
 use lib.ListN.{length, take, drop, replicate, length-append, length-drop, take-append-drop}
-use lib.Seq.{take_all, take-append_seam, length-take-le, drop-drop}
+use lib.Seq.{take-append_seam, length-take-le, drop-drop}
 use Rattle.cells.specs.Cells.{Cell, flat}
 use Rattle.cells.specs.Check.{code_count, event_count}
 use Rattle.cells.proofs.Cells.{length-flat, flat_append}
@@ -92,13 +92,6 @@ module _ (r : Role) (s out : List ℕ) (n at i : ℕ) (k : Running r s out n at 
           long = w.same ∙ k.long;
           fits = k.fits;
         }
-
-  pub running_end : n ≤ i → (out ≡ cells_of r n s) × (at ≡ sizes_of r n s)
-  running_end h =
-      let z : n - i ≡ 0 = omega arith in (
-        sym (k.says ∙ ap (λ (j : ℕ). take (16 * i) out ++ cells_of r j (drop at s)) z ∙ append-nil (take (16 * i) out) ∙ take_all (16 * i) out (omega (arith, k.long))),
-        omega (arith, k.takes, ap (λ (j : ℕ). sizes_of r j (drop at s)) z),
-      )
 
 -- ---- function by function
 
@@ -248,13 +241,6 @@ function-by s out at to (c ∷ cs) f p u l h =
 module _ (s out : List ℕ) (at to : ℕ) (k : Restoring s out at to) where
   pub restoring_function : to < length out → Function-left s out at to (code_count (drop at s)) (event_count (drop at s))
   restoring_function h = function-by s out at to k.cs k.fine k.packs k.says k.long h
-
-  pub restoring_end : length out ≤ to → unpacked s ≡ bytes out
-  restoring_end h = none_left k.cs k.says k.long
-    where
-      none_left : (cs : List Cell) → unpacked s ≡ bytes (take to out ++ flat cs) → length out ≡ to + 16 * length cs → unpacked s ≡ bytes out
-      none_left [] u l = u ∙ ap bytes (append-nil (take to out) ∙ take_all to out h)
-      none_left (c ∷ cs) u l = absurd (omega arith)
 
 -- ---- the three parts of a function written, the head to the part `&mut out[to..]`, the others to `&mut out[a..e]`
 

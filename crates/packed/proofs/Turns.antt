@@ -4,25 +4,23 @@ use mathlib.Core.List.{List, [], ◌∷◌, ◌++◌, append_assoc, append-nil}
 use Prim.Native.Nat.{ℕ, suc, ◌+◌, ◌-◌, ◌*◌, ◌/◌, ◌≤◌, ◌<◌}
 use native.Mathlib.Numerals.{add-one}
 use native.Mathlib.Omega.{arith}
-use denote.Enum.Declared.{tag_of}
-use types.Run.{OneOf, miss}
 use lib.ListN.{length, get_or, take, drop, length-append, length-take, length-drop, drop_of_length-le, take-append-drop}
 use lib.Seq.{take-append-add, drop-append-add, length-take-le, drop-cons, drop-drop}
 use Rattle.cells.specs.Cells.{Cell, cells, over}
-use Rattle.cells.specs.declared.refusal.Refusal.TheVariants.{Length}
 use Rattle.cells.proofs.Cells.{length-cells, full_cells, part-cell}
 use Rattle.cells.proofs.Lists.{all_parts}
 use Rattle.packed.specs.Form.{Role, promise, role_of, size, keep, pack_from, packed}
 use Rattle.packed.specs.Reading.{Result, bytes, refused, ends, and_then, next_cell, read_cell}
 use Rattle.packed.specs.Steps.{NextCell, taken, taken_as, run_of, sizes_of, taken_run, put_kept}
 use Rattle.packed.specs.declared.form.Next.{Next}
-use Rattle.packed.specs.declared.Packing.{Packing}
-use Rattle.packed.specs.contracts.Packing.{the_type}
-use Rattle.packed.specs.declared.Packing.TheVariants.{Bytes, Refused, Ends}
 use Rattle.packed.proofs.Widths.{size_fits, keep-length, cell-length}
 use Rattle.packed.proofs.Walk.{cell_read, taken_none, then_nil, then_then}
 use Rattle.packed.proofs.Lengths.{pack_least}
 use Rattle.packed.proofs.Puts.{put_start, put_length, put_rest, rest_is}
+use Rattle.std.specs.Prelude.{Ok, Err}
+use Rattle.packed.specs.Answer.{Packing}
+use Rattle.packed.specs.declared.PackingError.{PackingError}
+use Rattle.packed.specs.declared.PackingError.TheVariants.{Ends}
 
 -- ---- the image's cell at i, `&image[16 * i..16 * i + 16]`
 
@@ -47,7 +45,7 @@ module _ (s : List ℕ) (i : ℕ) (c : Cell) (h : i < length s / 16) (is : c ≡
 
   -- what is kept from it on
   module _ (code events : ℕ) (r : Next) (n : NextCell code events c r) where
-    kept_on : pack_from (promise code events) (drop i (cells s)) ≡ keep (role_of (promise code events)) c ++ pack_from (promise r.code r.events) (drop (i + 1) (cells s))
+    kept_on : pack_from (promise code events) (drop i (cells s)) ≡ keep (role_of (promise code events)) c ++ pack_from (promise r.due.code r.due.events) (drop (i + 1) (cells s))
     kept_on =
         ap (pack_from (promise code events)) cell-there
         ∙ ap (λ (due : List Role). keep (role_of (promise code events)) c ++ pack_from due (drop (i + 1) (cells s))) (sym n.due)
@@ -103,7 +101,7 @@ module _ (s out₀ out : List ℕ) (code events at i : ℕ) (k : Keeping s out�
     kept_room : at + r.size ≤ length (packed s)
     kept_room =
         let role = role_of (promise code events) in
-        let rest = pack_from (promise r.code r.events) (drop (i + 1) (cells s)) in
+        let rest = pack_from (promise r.due.code r.due.events) (drop (i + 1) (cells s)) in
         omega (arith, kept-all, ap length (kept_on s i c h is code events r n), length-append (keep role c) rest, keep-length role c full, n.keeps)
 
     -- there is room for what the cell keeps; and for the whole cell, where 16 or more are left
@@ -114,7 +112,7 @@ module _ (s out₀ out : List ℕ) (code events at i : ℕ) (k : Keeping s out�
     keeping_whole l = omega (arith, kept-least, k.fits, k.long, length-drop at out)
 
     pub keeping_next : (part : List ℕ) → part ≡ put_kept c r.size (length s / 16 - i) (take (length out - at) (drop at out))
-        → Keeping s out₀ (take at out ++ (part ++ drop (length out - at) (drop at out))) r.code r.events (at + r.size) (i + 1)
+        → Keeping s out₀ (take at out ++ (part ++ drop (length out - at) (drop at out))) r.due.code r.due.events (at + r.size) (i + 1)
     keeping_next part e =
         let role = role_of (promise code events) in
         let left : ℕ = length s / 16 - i in
@@ -130,8 +128,8 @@ module _ (s out₀ out : List ℕ) (code events at i : ℕ) (k : Keeping s out�
         let past : at + m ≡ length (packed s) = omega (arith, kept_room) in
         record {
           says = k.says ∙ ap (λ (t : List ℕ). take at out ++ t) (kept_on s i c h is code events r n)
-              ∙ sym (append_assoc (take at out) (keep role c) (pack_from (promise r.code r.events) (drop (i + 1) (cells s))))
-              ∙ ap (λ (t : List ℕ). t ++ pack_from (promise r.code r.events) (drop (i + 1) (cells s))) (sym w.start);
+              ∙ sym (append_assoc (take at out) (keep role c) (pack_from (promise r.due.code r.due.events) (drop (i + 1) (cells s))))
+              ∙ ap (λ (t : List ℕ). t ++ pack_from (promise r.due.code r.due.events) (drop (i + 1) (cells s))) (sym w.start);
           stays = ap (λ (j : ℕ). drop j (take at out ++ (part ++ drop (length out - at) (drop at out)))) (sym past) ∙ w.rest m ∙ behind ∙ drop-drop m at out
               ∙ ap (λ (j : ℕ). drop j out) past ∙ k.stays;
           long = w.same ∙ k.long;
@@ -149,21 +147,19 @@ module _ (s out₀ out : List ℕ) (code events at i : ℕ) (k : Keeping s out�
 -- ---- results
 
 -- a fault stays one
-stops : (b : List ℕ) (t u : Result) (m k : ℕ) → ((n : ℕ) → taken t k ≡ Bytes n → ⊥) → taken (and_then (bytes b) (and_then t u)) m ≡ taken t k
+stops : (b : List ℕ) (t u : Result) (m k : ℕ) → ((n : ℕ) → taken t k ≡ Ok n → ⊥) → taken (and_then (bytes b) (and_then t u)) m ≡ taken t k
 stops b (bytes a) u m k h = absurd (h k refl)
 stops b (refused x) u m k h = refl
 stops b (ends p d) u m k h = refl
 
-taken-bytes : (t : Result) (k n : ℕ) → taken t k ≡ Bytes n → (n ≡ k) × ((c : List ℕ) → ((b : List ℕ) → t ≡ bytes b → b ≡ c) → t ≡ bytes c)
+taken-bytes : (t : Result) (k n : ℕ) → taken t k ≡ Ok n → (n ≡ k) × ((c : List ℕ) → ((b : List ℕ) → t ≡ bytes b → b ≡ c) → t ≡ bytes c)
 taken-bytes (bytes a) k n e = (cc, λ c f. ap bytes (f a refl))
 taken-bytes (refused x) k n e = let z : ◌≡◌ {A = ℕ} 0 1 = cc in absurd (omega arith)
 taken-bytes (ends p d) k n e = let z : ◌≡◌ {A = ℕ} 0 1 = cc in absurd (omega arith)
 
 -- the code's arm for what is no count
-pub not-bytes : (t : Packing) → OneOf (1 ∷ 2 ∷ []) (tag_of the_type t) → (n : ℕ) → t ≡ Bytes n → ⊥
-not-bytes (Bytes m) o n e = miss (1 ∷ 2 ∷ []) 0 tt o
-not-bytes (Refused x) o n e = let z : ◌≡◌ {A = ℕ} 0 1 = cc in omega arith
-not-bytes (Ends p d) o n e = let z : ◌≡◌ {A = ℕ} 0 1 = cc in omega arith
+pub not-bytes : {t : Packing} {x : PackingError} → t ≡ Err x → (n : ℕ) → t ≡ Ok n → ⊥
+not-bytes e n i = let z : ◌≡◌ {A = ℕ} 0 1 = cc in omega arith
 
 -- ---- the packed cells checked: a run of them
 
@@ -175,7 +171,7 @@ module _ (r : Role) where
     pub cell_is : read_cell r p d s ≡ bytes (next_cell r s)
     pub full : length (next_cell r s) ≡ 16
 
-  pub went : (p d : ℕ) (s : List ℕ) (k : ℕ) → Bytes k ≡ taken (read_cell r p d s) (size r s) → Went p d s k
+  pub went : (p d : ℕ) (s : List ℕ) (k : ℕ) → Ok k ≡ taken (read_cell r p d s) (size r s) → Went p d s k
   went p d s k e =
       let (n, i) = taken-bytes (read_cell r p d s) (size r s) k (sym e) in
       let c = i (next_cell r s) (λ b q. (cell_read r p d s b q).is) in
@@ -206,11 +202,6 @@ module _ (r : Role) (s : List ℕ) (n p d at i : ℕ) (g : Checking r s n p d at
     next_of : n - i ≡ suc (n - (i + 1))
     next_of = omega arith
 
-    pub checking_full : d + i ≡ 4096 → Refused Length ≡ taken_run r n p d s
-    checking_full e =
-        let z : 4096 - (d + i) ≡ 0 = omega arith in
-        sym (ap (λ (t : Result). taken t (sizes_of r n s)) (g.says ∙ ap₂ (λ (j q : ℕ). and_then (bytes g.done) (run_of r j q p (d + i) (drop at s))) next_of z))
-
     module _ (some : d + i < 4096) where
       room_of : 4096 - (d + i) ≡ suc (4096 - (d + (i + 1)))
       room_of = omega arith
@@ -219,16 +210,16 @@ module _ (r : Role) (s : List ℕ) (n p d at i : ℕ) (g : Checking r s n p d at
           ≡ and_then (bytes g.done) (and_then (read_cell r p (d + i) (drop at s)) (run_of r (n - (i + 1)) (4096 - (d + (i + 1))) p (d + i + 1) (drop (size r (drop at s)) (drop at s))))
       checking_on = g.says ∙ ap₂ (λ (j q : ℕ). and_then (bytes g.done) (run_of r j q p (d + i) (drop at s))) next_of room_of
 
-      pub checking_fault : (t : Packing) → t ≡ taken_as r p (d + i) (drop at s) → ((k : ℕ) → t ≡ Bytes k → ⊥) → t ≡ taken_run r n p d s
+      pub checking_fault : (t : Packing) → t ≡ taken_as r p (d + i) (drop at s) → ((k : ℕ) → t ≡ Ok k → ⊥) → t ≡ taken_run r n p d s
       checking_fault t e f =
           e ∙ sym (ap (λ (x : Result). taken x (sizes_of r n s)) checking_on ∙ stops g.done (read_cell r p (d + i) (drop at s)) _ _ (size r (drop at s)) (λ k q. f k (e ∙ q)))
 
-      pub checking_none-left : at ≡ length s → Ends p (d + i) ≡ taken_run r n p d s
+      pub checking_none-left : at ≡ length s → Err (Ends p (d + i)) ≡ taken_run r n p d s
       checking_none-left e =
-          checking_fault (Ends p (d + i)) (taken_none r p (d + i) (drop at s) (omega (arith, length-drop at s)))
+          checking_fault (Err (Ends p (d + i))) (taken_none r p (d + i) (drop at s) (omega (arith, length-drop at s)))
           (λ k q. let z : ◌≡◌ {A = ℕ} 0 1 = cc in omega arith)
 
-      pub checking_next : (k : ℕ) → Bytes k ≡ taken_as r p (d + i) (drop at s) → Checking r s n p d (at + k) (i + 1)
+      pub checking_next : (k : ℕ) → Ok k ≡ taken_as r p (d + i) (drop at s) → Checking r s n p d (at + k) (i + 1)
       checking_next k e =
           let w = went r p (d + i) (drop at s) k e in
           let rest = run_of r (n - (i + 1)) (4096 - (d + (i + 1))) p (d + i + 1) (drop (size r (drop at s)) (drop at s)) in
@@ -242,9 +233,3 @@ module _ (r : Role) (s : List ℕ) (n p d at i : ℕ) (g : Checking r s n p d at
             within = omega (arith, length-drop at s, g.within, w.fits);
             place = omega arith;
           }
-
-  pub checking_end : n ≤ i → Bytes at ≡ taken_run r n p d s
-  checking_end h =
-      let z : n - i ≡ 0 = omega arith in
-      let e : sizes_of r n s ≡ at = omega (arith, g.takes, ap (λ (j : ℕ). sizes_of r j (drop at s)) z) in
-      sym (ap₂ taken (g.says ∙ ap (λ (j : ℕ). and_then (bytes g.done) (run_of r j (4096 - (d + i)) p (d + i) (drop at s))) z) e)

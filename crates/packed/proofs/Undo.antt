@@ -8,8 +8,6 @@ use borrow.Author.Tests.{leb-true, le-leb, lt-leb}
 use lib.Dec.{leb}
 use lib.ListN.{length, take, drop}
 use Rattle.cells.specs.Cells.{cells, over}
-use Rattle.cells.specs.declared.refusal.Checked.{Checked}
-use Rattle.cells.specs.declared.refusal.Checked.TheVariants.{Good, Refused as RefusedBy}
 use Rattle.cells.specs.declared.refusal.Refusal.{Refusal}
 use Rattle.cells.specs.declared.refusal.Refusal.TheVariants.{OutputTooShort}
 use Rattle.cells.proofs.Cells.{length-cells, flat-cells, cells-flat}
@@ -24,11 +22,13 @@ use Rattle.packed.specs.Reading.{Result, bytes, refused, ends, if_good, unpacked
 use Rattle.packed.specs.Operations.{pack_result, unpack_result, answer_of, output_of, Done, PackDone, UnpackDone, is_written, length_written}
 use Rattle.packed.specs.Steps.{counted, Room}
 use Rattle.packed.specs.Claim.{Wrote, wrote, Writes, UnpackUndoesPack, NeverAlike, PackUndoesUnpack, OneForm, UnpackedPasses, PackNeverLonger}
-use Rattle.packed.specs.declared.Packing.{Packing}
-use Rattle.packed.specs.declared.Packing.TheVariants.{Bytes, Refused, Ends}
 use Rattle.packed.proofs.Lengths.{packed_shorter}
 use Rattle.packed.proofs.Walk.{read_back, read_is, refused-bytes}
 use Rattle.packed.proofs.Images.{image_fine, fine_image, fine_full}
+use Rattle.std.specs.Prelude.{Ok, Err}
+use Rattle.cells.specs.Checked.{Checked}
+use Rattle.packed.specs.Answer.{Packing}
+use Rattle.packed.specs.declared.PackingError.TheVariants.{Refused, Ends}
 
 -- ---- images and packed forms
 
@@ -51,8 +51,8 @@ unfolding pack_result
 pack_good s g = ap (λ (r : Checked). if_good r (packed s)) ((image_good s).1 g)
 
 pack_by : (s b : List ℕ) (r : Checked) → image_answer s ≡ r → if_good r (packed s) ≡ bytes b → GoodImage s × (b ≡ packed s)
-pack_by s b Good e q = ((image_good s).0 e, cc)
-pack_by s b (RefusedBy x) e q = absurd (refused-bytes q)
+pack_by s b (Ok tt) e q = ((image_good s).0 e, cc)
+pack_by s b (Err x) e q = absurd (refused-bytes q)
 
 pack_is : (s b : List ℕ) → pack_result s ≡ bytes b → GoodImage s × (b ≡ packed s)
 unfolding pack_result
@@ -67,10 +67,10 @@ record Was (t : Result) (lent : List ℕ) (n : ℕ) : Type 0 where
   fits : length b ≤ length lent
   back : take n (output_of t lent) ≡ b
 
-refused-not : {x : Refusal} {n : ℕ} → Refused x ≡ Bytes n → ⊥
+refused-not : {x : Refusal} {n : ℕ} → Err (Refused x) ≡ Ok n → ⊥
 refused-not e = let z : ◌≡◌ {A = ℕ} 0 1 = cc in omega arith
 
-ends-not : {p d n : ℕ} → Ends p d ≡ Bytes n → ⊥
+ends-not : {p d n : ℕ} → Err (Ends p d) ≡ Ok n → ⊥
 ends-not e = let z : ◌≡◌ {A = ℕ} 0 1 = cc in omega arith
 
 was : (t : Result) (lent : List ℕ) (n : ℕ) → Wrote t lent n → Was t lent n
@@ -80,10 +80,10 @@ was (ends p d) lent n e = absurd (ends-not e)
 was (bytes b) lent n e =
     by_test (leb (length b) (length lent))
     (λ y.
-    let q : Bytes (length b) ≡ Bytes n = sym (rw y) ∙ e in
+    let q : Ok (length b) ≡ Ok n = sym (rw y) ∙ e in
     let l : n ≡ length b = cc in
     record { b = b; is = refl; long = l; fits = leb-true _ _ y; back = rw (y, l) (over-take b lent) })
-    (λ z. let q : Refused OutputTooShort ≡ Bytes n = sym (rw z) ∙ e in absurd (refused-not q))
+    (λ z. let q : Err (Refused OutputTooShort) ≡ Ok n = sym (rw z) ∙ e in absurd (refused-not q))
 
 writes : (t : Result) (lent b : List ℕ) → t ≡ bytes b → length b ≤ length lent → Writes t lent b
 unfolding answer_of output_of
@@ -134,9 +134,9 @@ pack_never_longer s lent n w =
 
 -- what an operation that is done has written
 was_done : (t : Result) (lent after : List ℕ) (r : Packing) → Done t lent after r → is_written r ≡ true → Was t lent (length_written r) × (take (length_written r) after ≡ take (length_written r) (output_of t lent))
-was_done t lent after (Bytes n) d y = (was t lent n (sym d.answer), ap (take n) d.bytes)
-was_done t lent after (Refused x) d y = absurd (true≢false (sym y))
-was_done t lent after (Ends p q) d y = absurd (true≢false (sym y))
+was_done t lent after (Ok n) d y = (was t lent n (sym d.answer), ap (take n) d.bytes)
+was_done t lent after (Err (Refused x)) d y = absurd (true≢false (sym y))
+was_done t lent after (Err (Ends p q)) d y = absurd (true≢false (sym y))
 
 pub pack_done : (s lent after : List ℕ) (r : Packing) → Done (pack_result s) lent after r → PackDone s lent after r
 pack_done s lent after r d = record {
@@ -156,9 +156,9 @@ pack_done s lent after r d = record {
 }
   where
     short : (t : Packing) → Done (pack_result s) lent after t → length_written t ≤ length s
-    short (Bytes n) q = pack_never_longer s lent n (sym q.answer)
-    short (Refused x) q = omega arith
-    short (Ends p e) q = omega arith
+    short (Ok n) q = pack_never_longer s lent n (sym q.answer)
+    short (Err (Refused x)) q = omega arith
+    short (Err (Ends p e)) q = omega arith
 
 pub unpack_done : (s lent after : List ℕ) (r : Packing) → Done (unpack_result s) lent after r → UnpackDone s lent after r
 unpack_done s lent after r d = record {
@@ -180,68 +180,68 @@ unpack_done s lent after r d = record {
 }
 
 -- a result written, or too long, or none
-pub done_written : (b lent after : List ℕ) → length b ≤ length lent → after ≡ over b lent → Done (bytes b) lent after (Bytes (length b))
+pub done_written : (b lent after : List ℕ) → length b ≤ length lent → after ≡ over b lent → Done (bytes b) lent after (Ok (length b))
 unfolding answer_of output_of
 done_written b lent after l e = record { answer = rw (le-leb _ _ l); reply = rw (le-leb _ _ l); bytes = rw (le-leb _ _ l) e }
 
-pub done_too_long : (b lent : List ℕ) → length lent < length b → Done (bytes b) lent lent (Refused OutputTooShort)
+pub done_too_long : (b lent : List ℕ) → length lent < length b → Done (bytes b) lent lent (Err (Refused OutputTooShort))
 unfolding answer_of output_of
 done_too_long b lent l = record { answer = rw (lt-leb _ _ l); reply = rw (lt-leb _ _ l); bytes = rw (lt-leb _ _ l) }
 
-pub done_refused : (x : Refusal) (lent : List ℕ) → Done (refused x) lent lent (Refused x)
+pub done_refused : (x : Refusal) (lent : List ℕ) → Done (refused x) lent lent (Err (Refused x))
 unfolding answer_of output_of
 done_refused x lent = record { answer = refl; reply = refl; bytes = refl }
 
-pub done_ends : (p d : ℕ) (lent : List ℕ) → Done (ends p d) lent lent (Ends p d)
+pub done_ends : (p d : ℕ) (lent : List ℕ) → Done (ends p d) lent lent (Err (Ends p d))
 unfolding answer_of output_of
 done_ends p d lent = record { answer = refl; reply = refl; bytes = refl }
 
 -- a count is that of an image
-pub counted_room : (t : Result) (n : ℕ) → Bytes n ≡ counted t → Room t n
+pub counted_room : (t : Result) (n : ℕ) → Ok n ≡ counted t → Room t n
 counted_room (bytes b) n e = record { image = b; is = refl; long = cc }
 counted_room (refused x) n e = absurd (refused-not (sym e))
 counted_room (ends p d) n e = absurd (ends-not (sym e))
 
 module _ (s lent : List ℕ) where
-  done_part : (b part : List ℕ) (n : ℕ) → n ≡ length b → n ≤ length lent → part ≡ b → Done (bytes b) lent (part ++ drop n lent) (Bytes n)
+  done_part : (b part : List ℕ) (n : ℕ) → n ≡ length b → n ≤ length lent → part ≡ b → Done (bytes b) lent (part ++ drop n lent) (Ok n)
   unfolding over
   done_part b part n e l w = rw (e, w) (done_written b lent (b ++ drop (length b) lent) (omega arith) refl)
 
-  pub pack_refused : (x : Refusal) → image_answer s ≡ RefusedBy x → PackDone s lent lent (Refused x)
+  pub pack_refused : (x : Refusal) → image_answer s ≡ Err x → PackDone s lent lent (Err (Refused x))
   unfolding pack_result
-  pack_refused x e = pack_done s lent lent (Refused x) (rw e (done_refused x lent))
+  pack_refused x e = pack_done s lent lent (Err (Refused x)) (rw e (done_refused x lent))
 
-  pub pack_too_long : image_answer s ≡ Good → length lent < length (packed s) → PackDone s lent lent (Refused OutputTooShort)
-  pack_too_long g l = pack_done s lent lent (Refused OutputTooShort) (rw (pack_good s ((image_good s).0 g)) (done_too_long (packed s) lent l))
+  pub pack_too_long : image_answer s ≡ Ok tt → length lent < length (packed s) → PackDone s lent lent (Err (Refused OutputTooShort))
+  pack_too_long g l = pack_done s lent lent (Err (Refused OutputTooShort)) (rw (pack_good s ((image_good s).0 g)) (done_too_long (packed s) lent l))
 
-  pub pack_written : (n : ℕ) (after : List ℕ) → image_answer s ≡ Good → n ≡ length (packed s) → n ≤ length lent → after ≡ over (packed s) lent → PackDone s lent after (Bytes n)
+  pub pack_written : (n : ℕ) (after : List ℕ) → image_answer s ≡ Ok tt → n ≡ length (packed s) → n ≤ length lent → after ≡ over (packed s) lent → PackDone s lent after (Ok n)
   pack_written n after g e l w =
-      pack_done s lent after (Bytes n) (rw (pack_good s ((image_good s).0 g), e) (done_written (packed s) lent after (omega arith) w))
+      pack_done s lent after (Ok n) (rw (pack_good s ((image_good s).0 g), e) (done_written (packed s) lent after (omega arith) w))
 
   -- of no cells it is no bytes
-  pub pack_nothing : length s ≡ 0 → PackDone s lent lent (Bytes 0)
+  pub pack_nothing : length s ≡ 0 → PackDone s lent lent (Ok 0)
   unfolding image_answer functions packed
   pack_nothing e =
       let n : s ≡ [] = nothing_in s e in
       pack_written 0 lent (rw n) (rw n) (omega arith) (rw n (sym (over_nil lent)))
 
-  pub unpack_too_long : (n : ℕ) → Bytes n ≡ counted (unpacked s) → length lent < n → UnpackDone s lent lent (Refused OutputTooShort)
+  pub unpack_too_long : (n : ℕ) → Ok n ≡ counted (unpacked s) → length lent < n → UnpackDone s lent lent (Err (Refused OutputTooShort))
   unpack_too_long n k l =
       let m = counted_room (unpacked s) n k in
-      unpack_done s lent lent (Refused OutputTooShort) (rw m.is (done_too_long m.image lent (omega (arith, m.long))))
+      unpack_done s lent lent (Err (Refused OutputTooShort)) (rw m.is (done_too_long m.image lent (omega (arith, m.long))))
 
   -- into the part `&mut out[..n]`
-  pub unpack_written : (n : ℕ) (part : List ℕ) → unpacked s ≡ bytes part → Bytes n ≡ counted (unpacked s) → n ≤ length lent → UnpackDone s lent (part ++ drop n lent) (Bytes n)
+  pub unpack_written : (n : ℕ) (part : List ℕ) → unpacked s ≡ bytes part → Ok n ≡ counted (unpacked s) → n ≤ length lent → UnpackDone s lent (part ++ drop n lent) (Ok n)
   unpack_written n part e k l =
-      let q : Bytes n ≡ Bytes (length part) = k ∙ ap counted e in
+      let q : Ok n ≡ Ok (length part) = k ∙ ap counted e in
       let m : n ≡ length part = cc in
-      unpack_done s lent (part ++ drop n lent) (Bytes n) (rw e (done_part part part n m l refl))
+      unpack_done s lent (part ++ drop n lent) (Ok n) (rw e (done_part part part n m l refl))
 
   -- what is no image: the answer is that of the count
-  not-counted : (t : Result) → ((n : ℕ) → counted t ≡ Bytes n → ⊥) → Done t lent lent (counted t)
+  not-counted : (t : Result) → ((n : ℕ) → counted t ≡ Ok n → ⊥) → Done t lent lent (counted t)
   not-counted (bytes b) h = absurd (h (length b) refl)
   not-counted (refused x) h = done_refused x lent
   not-counted (ends p d) h = done_ends p d lent
 
-  pub unpack_refused : (r : Packing) → r ≡ counted (unpacked s) → ((n : ℕ) → r ≡ Bytes n → ⊥) → UnpackDone s lent lent r
+  pub unpack_refused : (r : Packing) → r ≡ counted (unpacked s) → ((n : ℕ) → r ≡ Ok n → ⊥) → UnpackDone s lent lent r
   unpack_refused r e h = rw e (unpack_done s lent lent (counted (unpacked s)) (not-counted (unpacked s) (λ n q. h n (e ∙ q))))

@@ -10,17 +10,17 @@ use lib.Dec.{leb}
 use lib.ListN.{length, take, drop, length-append, take-append-drop}
 use Rattle.cells.specs.Answers.{unless}
 use Rattle.cells.specs.Cells.{Cell, flat}
-use Rattle.cells.specs.declared.refusal.Checked.{Checked}
-use Rattle.cells.specs.declared.refusal.Checked.TheVariants.{Good, Refused}
 use Rattle.cells.specs.declared.refusal.Refusal.{Refusal}
 use Rattle.cells.specs.declared.refusal.Refusal.TheVariants.{Length, UnknownCommand}
 use Rattle.cells.proofs.Facts.{by_test}
 use Rattle.packed.specs.Form.{Role, role_of, due_behind, size, keep, pack_from}
 use Rattle.packed.specs.Reading.{Result, bytes, refused, ends, if_good, and_then, empty, finished, known, next_cell, cell_check, read_cell, next_position, unpack_from}
 use Rattle.packed.specs.Steps.{taken}
-use Rattle.packed.specs.declared.Packing.{Packing}
-use Rattle.packed.specs.declared.Packing.TheVariants.{Bytes, Refused as RefusedBy, Ends}
 use Rattle.packed.proofs.Widths.{size_some, right-zeros, right-known, right_anywhere, known-first, keep-length, next-first, next-size, next-rest, next_back, due_kept, cell-length, cell-keep, due_read}
+use Rattle.std.specs.Prelude.{Ok, Err}
+use Rattle.cells.specs.Checked.{Checked}
+use Rattle.packed.specs.Answer.{Packing}
+use Rattle.packed.specs.declared.PackingError.TheVariants.{Refused as RefusedBy, Ends}
 
 -- ---- results
 
@@ -55,9 +55,9 @@ then_bytes (bytes a) (ends p d) b e = absurd (ends-bytes e)
 then_bytes (refused x) u b e = absurd (refused-bytes e)
 then_bytes (ends p d) u b e = absurd (ends-bytes e)
 
-good-bytes : (k : Checked) (c b : List ℕ) → if_good k c ≡ bytes b → (k ≡ Good) × (b ≡ c)
-good-bytes Good c b e = (refl, cc)
-good-bytes (Refused x) c b e = absurd (refused-bytes e)
+good-bytes : (k : Checked) (c b : List ℕ) → if_good k c ≡ bytes b → (k ≡ Ok tt) × (b ≡ c)
+good-bytes (Ok tt) c b e = (refl, cc)
+good-bytes (Err x) c b e = absurd (refused-bytes e)
 
 -- ---- one cell
 
@@ -91,7 +91,7 @@ module _ (r : Role) (p d : ℕ) (s : List ℕ) where
   -- what was read: all bytes are there, and the cell is right
   pub record Cell-read (c : List ℕ) : Type 0 where
     pub fits : size r s ≤ length s
-    pub right : cell_check r p d (next_cell r s) ≡ Good
+    pub right : cell_check r p d (next_cell r s) ≡ Ok tt
     pub is : c ≡ next_cell r s
 
   pub cell_read : (c : List ℕ) → read_cell r p d s ≡ bytes c → Cell-read c
@@ -110,28 +110,28 @@ module _ (r : Role) (p d : ℕ) (s : List ℕ) where
   abbrev says : Result → Packing
   says t = taken t (size r s)
 
-  pub taken_none : length s ≡ 0 → Ends p d ≡ says (read_cell r p d s)
+  pub taken_none : length s ≡ 0 → Err (Ends p d) ≡ says (read_cell r p d s)
   taken_none e = sym (ap says (read_none r p d s e))
 
-  pub taken-unknown : 1 ≤ length s → known r s ≡ false → RefusedBy (UnknownCommand p d) ≡ says (read_cell r p d s)
+  pub taken-unknown : 1 ≤ length s → known r s ≡ false → Err (RefusedBy (UnknownCommand p d)) ≡ says (read_cell r p d s)
   taken-unknown some k = sym (ap says (read_unknown r p d s some k))
 
-  pub taken_cut : 1 ≤ length s → known r s ≡ true → length s < size r s → Ends p d ≡ says (read_cell r p d s)
+  pub taken_cut : 1 ≤ length s → known r s ≡ true → length s < size r s → Err (Ends p d) ≡ says (read_cell r p d s)
   taken_cut some k h = sym (ap says (read_cut r p d s some k h))
 
   module _ (k : known r s ≡ true) (h : size r s ≤ length s) where
-    pub taken_refused : (x : Refusal) → cell_check r p d (next_cell r s) ≡ Refused x → RefusedBy x ≡ says (read_cell r p d s)
+    pub taken_refused : (x : Refusal) → cell_check r p d (next_cell r s) ≡ Err x → Err (RefusedBy x) ≡ says (read_cell r p d s)
     taken_refused x e = sym (ap says (read_whole r p d s k h) ∙ ap (λ (t : Checked). says (if_good t (next_cell r s))) e)
 
-    pub taken-good : (n : ℕ) → n ≡ size r s → cell_check r p d (next_cell r s) ≡ Good → Bytes n ≡ says (read_cell r p d s)
-    taken-good n en e = ap Bytes en ∙ sym (ap says (read_whole r p d s k h) ∙ ap (λ (t : Checked). says (if_good t (next_cell r s))) e)
+    pub taken-good : (n : ℕ) → n ≡ size r s → cell_check r p d (next_cell r s) ≡ Ok tt → Ok n ≡ says (read_cell r p d s)
+    taken-good n en e = ap Ok en ∙ sym (ap says (read_whole r p d s k h) ∙ ap (λ (t : Checked). says (if_good t (next_cell r s))) e)
 
     -- by a test of its operands
     module _ (t : Bool) (x : Refusal) (by : cell_check r p d (next_cell r s) ≡ unless t x) where
-      pub taken_unfit : t ≡ false → RefusedBy x ≡ says (read_cell r p d s)
+      pub taken_unfit : t ≡ false → Err (RefusedBy x) ≡ says (read_cell r p d s)
       taken_unfit f = taken_refused x (by ∙ ap (λ (u : Bool). unless u x) f)
 
-      pub taken_fit : t ≡ true → (n : ℕ) → n ≡ size r s → Bytes n ≡ says (read_cell r p d s)
+      pub taken_fit : t ≡ true → (n : ℕ) → n ≡ size r s → Ok n ≡ says (read_cell r p d s)
       taken_fit y n en = taken-good n en (by ∙ ap (λ (u : Bool). unless u x) y)
 
 -- ---- one step
@@ -157,7 +157,7 @@ module _ (p d : ℕ) (due : List Role) (s : List ℕ) where
 -- ---- cells that are right, one after another from where `due` are promised, with nothing promised at the end
 
 abbrev pub Right : Role → Cell → Type 0
-Right r c = (length c ≡ 16) × ((p d : ℕ) → cell_check r p d c ≡ Good)
+Right r c = (length c ≡ 16) × ((p d : ℕ) → cell_check r p d c ≡ Ok tt)
 
 abbrev pub Fine : List Role → List Cell → Type 0
 Fine due [] = due ≡ []

@@ -19,7 +19,6 @@ use Rattle.cells.specs.Table.{Row, row, rows, row_of, total, width_of, head_row,
 use Rattle.cells.specs.declared.table.Kind.{Kind}
 use Rattle.cells.specs.declared.table.Kind.TheVariants.{Reg, OptReg, Flag, Quad, Two, Four, Eight, Site}
 use Rattle.cells.specs.declared.table.Class.TheVariants.{NoCommand}
-use Rattle.cells.specs.declared.refusal.Checked.TheVariants.{Good}
 use Rattle.cells.specs.declared.refusal.Refusal.TheVariants.{Operand}
 use Rattle.cells.proofs.Facts.{by_test, and_true}
 use Rattle.cells.proofs.Every.{at_any}
@@ -27,6 +26,7 @@ use Rattle.cells.proofs.Checks.{instruction_good, event_good, head-good}
 use Rattle.packed.specs.Form.{Role, Head, Code, Event, promise, role_of, due_behind, row_for, row_size, size, keep}
 use Rattle.packed.specs.Reading.{padded, next_cell, known, cell_check}
 use Rattle.packed.specs.Steps.{size_digits}
+use Rattle.std.specs.Prelude.{Ok}
 
 -- ---- sizes
 
@@ -177,21 +177,21 @@ operands_zeros [] c at g = rw (add-zero at) g
 operands_zeros (k ∷ ks) c at g =
     rw (← add_assoc at (width_of k) (total ks)) (operands_zeros ks c (at + width_of k) (and_true (operand_ok k c at) (operands_ok ks c (at + width_of k)) g).1)
 
-right-row : (r : Role) (p d : ℕ) (c : Cell) → cell_check r p d c ≡ Good → row_ok (row_for r c) c ≡ true
+right-row : (r : Role) (p d : ℕ) (c : Cell) → cell_check r p d c ≡ Ok tt → row_ok (row_for r c) c ≡ true
 right-row Head p d c g = ((head-good p d (code_count c + event_count c) c).0 g).1
 right-row Code p d c g = ((instruction_good p d c).0 g).1
 right-row Event p d c g = ((event_good p d c).0 g).1
 
-pub right-zeros : (r : Role) (p d : ℕ) (c : Cell) → cell_check r p d c ≡ Good → zeros (drop (size r c) c) ≡ true
+pub right-zeros : (r : Role) (p d : ℕ) (c : Cell) → cell_check r p d c ≡ Ok tt → zeros (drop (size r c) c) ≡ true
 unfolding row_size
 right-zeros r p d c g = operands_zeros (row_of (row_for r c)) c 1 (right-row r p d c g)
 
-pub right-known : (r : Role) (p d : ℕ) (c : Cell) → cell_check r p d c ≡ Good → known r c ≡ true
+pub right-known : (r : Role) (p d : ℕ) (c : Cell) → cell_check r p d c ≡ Ok tt → known r c ≡ true
 right-known Head p d c g = refl
 right-known Code p d c g = ((instruction_good p d c).0 g).0
 right-known Event p d c g = ((event_good p d c).0 g).0
 
-pub right_anywhere : (r : Role) (p d : ℕ) (c : Cell) → cell_check r p d c ≡ Good → (q e : ℕ) → cell_check r q e c ≡ Good
+pub right_anywhere : (r : Role) (p d : ℕ) (c : Cell) → cell_check r p d c ≡ Ok tt → (q e : ℕ) → cell_check r q e c ≡ Ok tt
 right_anywhere Head p d c g q e = (head-good q e (code_count c + event_count c) c).1 ((head-good p d (code_count c + event_count c) c).0 g)
 right_anywhere Code p d c g q e = (instruction_good q e c).1 ((instruction_good p d c).0 g)
 right_anywhere Event p d c g q e = (event_good q e c).1 ((event_good p d c).0 g)

@@ -1,6 +1,6 @@
 -- Worked: packed forms written out by hand from document 02 (W8): what each kind of cell keeps, document 01's printed example; both operations with
 -- every byte of the lent output; each refusal at its smallest packed form, and which of two faults decides; the limit of 65,536 bytes.
-use Rattle.std.specs.Prelude.{◌≡◌, refl, List, [], ◌∷◌, ◌++◌, map, ℕ, ◌+◌, ◌-◌, length, take, replicate}
+use Rattle.std.specs.Prelude.{◌≡◌, refl, List, [], ◌∷◌, ◌++◌, map, ℕ, ◌+◌, ◌-◌, length, take, replicate, Ok, Err}
 use Rattle.cells.specs.Assembler.{cell, Head, Label, JmpIf, Ret, RetNothing, LoadBool, LoadF64, LoadI32, LoadQ, LoadU32, AddI32, QTruthNot, Assert, Call, CallNothing, site, no_site, StoreVar, StoreVarSited, MakeRecord, Borrow, Write, function}
 use Rattle.cells.specs.Bytes.{bytes}
 use Rattle.cells.specs.Cells.{Cell, flat, over}
@@ -14,7 +14,7 @@ use Rattle.packed.specs.Form.{Role, Head as HeadCell, Code, Event, row_size, kee
 use Rattle.packed.specs.Reading.{Result, read_cell, unpack_from, unpacked}
 use Rattle.packed.specs.Steps.{size_digits, most_kept, put_kept, taken_run}
 use Rattle.packed.specs.Operations.{pack_result, unpack_result, answer_of, output_of, Reply, success, refusal, reply_of}
-use Rattle.packed.specs.declared.Packing.TheVariants.{Bytes, Refused, Ends}
+use Rattle.packed.specs.declared.PackingError.TheVariants.{Refused, Ends}
 
 -- ---- what a cell keeps
 
@@ -291,10 +291,10 @@ pub steps_hold : (size_digits 3 0x0A ≡ 0x433) × (size_digits 3 0x52 ≡ 0x17F
     × (map most_kept (0 ∷ 1 ∷ 2 ∷ 3 ∷ 4096 ∷ []) ≡ 0 ∷ 7 ∷ 22 ∷ 37 ∷ 61432 ∷ [])
     × (put_kept (Label 0xABCD) 3 15 (replicate 17 9) ≡ 0x0A ∷ 0xCD ∷ 0xAB ∷ replicate 14 9)
     × (put_kept (Label 0xABCD) 3 16 (replicate 17 9) ≡ 0x0A ∷ 0xCD ∷ 0xAB ∷ (replicate 13 0 ++ 9 ∷ []))
-    × (taken_run Code 2 0 4094 two_labels ≡ Bytes 6)
-    × (taken_run Code 2 0 4095 two_labels ≡ Refused Length)
-    × (taken_run Code 2 7 4094 (take 3 two_labels) ≡ Ends 7 4095)
-    × (taken_run Event 1 7 3 [] ≡ Ends 7 3)
-    × (taken_run Event 0 7 4096 [] ≡ Bytes 0)
+    × (taken_run Code 2 0 4094 two_labels ≡ Ok 6)
+    × (taken_run Code 2 0 4095 two_labels ≡ Err (Refused Length))
+    × (taken_run Code 2 7 4094 (take 3 two_labels) ≡ Err (Ends 7 4095))
+    × (taken_run Event 1 7 3 [] ≡ Err (Ends 7 3))
+    × (taken_run Event 0 7 4096 [] ≡ Ok 0)
 unfolding rows row_size over read_cell instruction_check event_check
 steps_hold = (refl, refl, refl, refl, refl, refl, refl, refl, refl, refl, refl)

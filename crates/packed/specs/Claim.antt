@@ -1,27 +1,25 @@
 -- Promise: what a buyer reads of the two operations together (document 02, W8), by their own definitions, whatever is lent: `answer_of (pack_result s)
 -- (length lent)` is what `pack` answers for the image s and the lent output, and `output_of (pack_result s) lent` is what the output then holds; and so
 -- for `unpack`.
-use Rattle.std.specs.Prelude.{ℕ, ◌≤◌, ◌<◌, ◌≡◌, List, [], ◌∷◌, ◌++◌, length, take}
+use Rattle.std.specs.Prelude.{ℕ, ◌≤◌, ◌<◌, ◌≡◌, List, [], ◌∷◌, ◌++◌, length, take, Ok}
 use Rattle.cells.specs.Bytes.{byte}
 use Rattle.cells.specs.Cells.{Cell, cells, over}
 use Rattle.cells.specs.Functions.{Function, functions}
-use Rattle.cells.specs.declared.refusal.Checked.TheVariants.{Good}
 use Rattle.image.specs.Image.{image_answer}
 use Rattle.packed.specs.Form.{Role, Head, Code, Event, size, keep, packed}
 use Rattle.packed.specs.Reading.{Result}
 use Rattle.packed.specs.Operations.{pack_result, unpack_result, answer_of, output_of}
-use Rattle.packed.specs.declared.Packing.TheVariants.{Bytes}
 
 -- an operation wrote n bytes to the lent output: these
 abbrev pub Wrote : Result → List ℕ → ℕ → Type 0
-Wrote t lent n = answer_of t (length lent) ≡ Bytes n
+Wrote t lent n = answer_of t (length lent) ≡ Ok n
 
 abbrev pub wrote : Result → List ℕ → ℕ → List ℕ
 wrote t lent n = take n (output_of t lent)
 
 -- it answers the length of b, and b stands over the start of the output, whose rest stays
 pub record Writes (t : Result) (lent b : List ℕ) : Type 0 where
-  pub answer : answer_of t (length lent) ≡ Bytes (length b)
+  pub answer : answer_of t (length lent) ≡ Ok (length b)
   pub bytes : output_of t lent ≡ over b lent
 
 -- 'import undoes export': of what `pack` wrote, `unpack` makes the image again, in any output as long as the image
@@ -47,7 +45,7 @@ OneForm =
 
 -- what `unpack` wrote passes the image check
 abbrev pub UnpackedPasses : Type 0
-UnpackedPasses = (s lent : List ℕ) (n : ℕ) → Wrote (unpack_result s) lent n → image_answer (wrote (unpack_result s) lent n) ≡ Good
+UnpackedPasses = (s lent : List ℕ) (n : ℕ) → Wrote (unpack_result s) lent n → image_answer (wrote (unpack_result s) lent n) ≡ Ok tt
 
 -- an output as long as the image is always enough for `pack`
 abbrev pub PackNeverLonger : Type 0

@@ -4,3 +4,4 @@ pub mod Operations
 pub mod Claim
 pub mod Steps
 pub mod Cases
+pub mod Answer

@@ -1,6 +1,6 @@
 -- Promise: what `pack` and `unpack` promise (document 02, W8): s is what they are given, `before` and `after` are what the lent output holds at entry
 -- and at exit, and r is the answer. `answer` and `bytes` say everything outright; the other fields say what follows.
-use Rattle.std.specs.Prelude.{ℕ, ◌≤◌, ◌≡◌, ◌↔◌, List, Bool, true, false, cond, leb, length, take}
+use Rattle.std.specs.Prelude.{ℕ, ◌≤◌, ◌≡◌, ◌↔◌, List, Bool, true, false, cond, leb, length, take, Ok, Err}
 use Rattle.cells.specs.Cells.{over}
 use Rattle.cells.specs.Refusals.{numbered, numbers_of}
 use Rattle.cells.specs.declared.refusal.Numbers.{Numbers}
@@ -8,8 +8,9 @@ use Rattle.cells.specs.declared.refusal.Refusal.TheVariants.{OutputTooShort}
 use Rattle.image.specs.Image.{image_answer, GoodImage}
 use Rattle.packed.specs.Form.{packed}
 use Rattle.packed.specs.Reading.{Result, bytes, refused, ends, if_good, unpacked}
-use Rattle.packed.specs.declared.Packing.{Packing}
-use Rattle.packed.specs.declared.Packing.TheVariants.{Bytes, Refused, Ends}
+use Rattle.packed.specs.Answer.{Packing}
+use Rattle.packed.specs.declared.PackingError.{PackingError}
+use Rattle.packed.specs.declared.PackingError.TheVariants.{Refused, Ends}
 
 -- ---- what each comes to, whatever is lent
 
@@ -24,9 +25,9 @@ unpack_result s = unpacked s
 
 -- the answer, where so many bytes are lent
 unfoldable pub answer_of : Result → ℕ → Packing
-answer_of (bytes b) room = cond (leb (length b) room) (Bytes (length b)) (Refused OutputTooShort)
-answer_of (refused x) room = Refused x
-answer_of (ends p d) room = Ends p d
+answer_of (bytes b) room = cond (leb (length b) room) (Ok (length b)) (Err (Refused OutputTooShort))
+answer_of (refused x) room = Err (Refused x)
+answer_of (ends p d) room = Err (Ends p d)
 
 -- what the output holds: the result over its start, and the rest stays; a refusal changes no byte
 unfoldable pub output_of : Result → List ℕ → List ℕ
@@ -36,25 +37,29 @@ output_of (ends p d) before = before
 
 -- ---- the contracts
 
+-- what the documents say of each error
+abbrev pub error_numbers : PackingError → Numbers
+error_numbers (Refused x) = numbers_of x
+error_numbers (Ends p d) = numbered 32 p d
+
 -- an answer as the document sets it out: the length written; or number, position and detail
 pub data Reply : Type 0 where
   success : ℕ → Reply
   refusal : Numbers → Reply
 
 abbrev pub reply_of : Packing → Reply
-reply_of (Bytes n) = success n
-reply_of (Refused x) = refusal (numbers_of x)
-reply_of (Ends p d) = refusal (numbered 32 p d)
+reply_of (Ok n) = success n
+reply_of (Err e) = refusal (error_numbers e)
 
 abbrev pub is_written : Packing → Bool
-is_written (Bytes n) = true
-is_written (Refused x) = false
-is_written (Ends p d) = false
+is_written (Ok n) = true
+is_written (Err (Refused x)) = false
+is_written (Err (Ends p d)) = false
 
 abbrev pub length_written : Packing → ℕ
-length_written (Bytes n) = n
-length_written (Refused x) = 0
-length_written (Ends p d) = 0
+length_written (Ok n) = n
+length_written (Err (Refused x)) = 0
+length_written (Err (Ends p d)) = 0
 
 pub record Done (t : Result) (before after : List ℕ) (r : Packing) : Type 0 where
   -- the answer, and the same by the document's numbers

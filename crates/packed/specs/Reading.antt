@@ -1,14 +1,13 @@
 -- Promise: how a packed form is read (document 02, W8): 'import reads cell by cell and the first fault decides: 1 if the cell, there or only
 -- promised, takes the result past 65,536 bytes, 3 for an unknown command or event kind, 32 if the packed bytes end inside a cell (a head too) or
 -- before a promised one, then 2 (first byte or limits) and 4'.
-use Rattle.std.specs.Prelude.{ℕ, zero, suc, ◌+◌, ◌-◌, List, [], ◌∷◌, ◌++◌, Bool, true, false, cond, ◌&&◌, ◌||◌, leb, length, take, drop, replicate}
+use Rattle.std.specs.Prelude.{ℕ, zero, suc, ◌+◌, ◌-◌, List, [], ◌∷◌, ◌++◌, Bool, true, false, cond, ◌&&◌, ◌||◌, leb, length, take, drop, replicate, Ok, Err}
 use Rattle.cells.specs.Cells.{Cell}
 use Rattle.cells.specs.Check.{code_count, event_count, is_command, is_event_kind, instruction_check, event_check, head_check}
 use Rattle.cells.specs.declared.refusal.Refusal.{Refusal}
 use Rattle.cells.specs.declared.refusal.Refusal.TheVariants.{Length, UnknownCommand}
-use Rattle.cells.specs.declared.refusal.Checked.{Checked}
-use Rattle.cells.specs.declared.refusal.Checked.TheVariants.{Good, Refused}
 use Rattle.packed.specs.Form.{Role, Head, Code, Event, role_of, due_behind, size}
+use Rattle.cells.specs.Checked.{Checked}
 
 -- ---- what is read: bytes; or a refusal; or 32, with the function's position and the cell's
 
@@ -19,8 +18,8 @@ pub data Result : Type 0 where
 
 -- behind a check
 abbrev pub if_good : Checked → List ℕ → Result
-if_good Good b = bytes b
-if_good (Refused x) b = refused x
+if_good (Ok tt) b = bytes b
+if_good (Err x) b = refused x
 
 -- 'the first fault decides'
 abbrev pub and_then : Result → Result → Result

@@ -1,5 +1,5 @@
 -- Inner: what the functions inside the two operations say.
-use Rattle.std.specs.Prelude.{ℕ, zero, suc, ◌+◌, ◌-◌, ◌*◌, ◌≡◌, List, [], ◌++◌, cond, ltb, length, take, drop, replicate}
+use Rattle.std.specs.Prelude.{ℕ, zero, suc, ◌+◌, ◌-◌, ◌*◌, ◌≡◌, List, [], ◌++◌, cond, ltb, length, take, drop, replicate, Ok, Err}
 use Rattle.cells.specs.Cells.{Cell, over}
 use Rattle.cells.specs.Check.{code_count, event_count}
 use Rattle.cells.specs.declared.refusal.Refusal.TheVariants.{Length}
@@ -7,8 +7,8 @@ use Rattle.packed.specs.Form.{Role, Head, Code, promise, role_of, due_behind, ro
 use Rattle.packed.specs.Reading.{Result, bytes, refused, ends, and_then, padded, next_cell, read_cell}
 use Rattle.packed.specs.declared.form.Next.{Next}
 use Rattle.packed.specs.declared.keep.Counted.{Counted}
-use Rattle.packed.specs.declared.Packing.{Packing}
-use Rattle.packed.specs.declared.Packing.TheVariants.{Bytes, Refused, Ends}
+use Rattle.packed.specs.Answer.{Packing}
+use Rattle.packed.specs.declared.PackingError.TheVariants.{Refused, Ends}
 
 -- how many bytes cells of n rows keep, from the row k on: a hexadecimal digit each, the first row's the lowest
 abbrev pub size_digits : ℕ → ℕ → ℕ
@@ -18,15 +18,15 @@ size_digits (suc n) k = row_size k + 16 * size_digits n (k + 1)
 -- the next cell, where so many instruction cells and event cells are promised
 pub record NextCell (code events : ℕ) (s : List ℕ) (r : Next) : Type 0 where
   pub keeps : r.size ≡ size (role_of (promise code events)) s
-  pub due : promise r.code r.events ≡ due_behind (promise code events) s
+  pub due : promise r.due.code r.due.events ≡ due_behind (promise code events) s
 
 -- ---- packing
 
 -- what is counted at once where the cell c is next: this; or all the events that are promised
 abbrev pub counted_at : ℕ → ℕ → Cell → Counted
-counted_at (suc n) m c = record { cells = 1; size = size Code c; code = n; events = m }
-counted_at zero (suc m) c = record { cells = suc m; size = 15 * suc m; code = 0; events = 0 }
-counted_at zero zero c = record { cells = 1; size = size Head c; code = code_count c; events = event_count c }
+counted_at (suc n) m c = record { cells = 1; size = size Code c; due = record { code = n; events = m } }
+counted_at zero (suc m) c = record { cells = suc m; size = 15 * suc m; due = record { code = 0; events = 0 } }
+counted_at zero zero c = record { cells = 1; size = size Head c; due = record { code = code_count c; events = event_count c } }
 
 -- the most that n cells can keep: one head's bytes, and of the others an event's
 abbrev pub most_kept : ℕ → ℕ
@@ -41,9 +41,9 @@ put_kept c k left out = cond (ltb left 16) (over (take k c) out) (over c out)
 
 -- one cell, that takes k bytes
 abbrev pub taken : Result → ℕ → Packing
-taken (bytes c) k = Bytes k
-taken (refused x) k = Refused x
-taken (ends p d) k = Ends p d
+taken (bytes c) k = Ok k
+taken (refused x) k = Err (Refused x)
+taken (ends p d) k = Err (Ends p d)
 
 -- the next cell of a packed form, in its role
 abbrev pub taken_as : Role → ℕ → ℕ → List ℕ → Packing
@@ -57,9 +57,9 @@ run_of r (suc n) (suc room) p d s = and_then (read_cell r p d s) (run_of r n roo
 
 -- all cells
 abbrev pub counted : Result → Packing
-counted (bytes b) = Bytes (length b)
-counted (refused x) = Refused x
-counted (ends p d) = Ends p d
+counted (bytes b) = Ok (length b)
+counted (refused x) = Err (Refused x)
+counted (ends p d) = Err (Ends p d)
 
 -- the result is an image of so many bytes
 pub record Room (t : Result) (n : ℕ) : Type 0 where

@@ -5,12 +5,18 @@ ghost use Rattle.packed.specs.Steps.{size_digits, NextCell};
 
 use cells::{check, read};
 
-// The next cell: how many bytes it keeps, and how many instruction cells and event cells are promised behind it.
+// How many instruction cells and event cells are promised.
+#[derive(Clone, Copy)]
+pub struct Due {
+    pub code: usize,
+    pub events: usize,
+}
+
+// The next cell: how many bytes it keeps, and what is promised behind it.
 #[derive(Clone, Copy)]
 pub struct Next {
     pub size: usize,
-    pub code: usize,
-    pub events: usize,
+    pub due: Due,
 }
 
 // A head's row in the table of commands.
@@ -21,29 +27,40 @@ pub const HEAD_SIZE: usize = check::HEAD_BYTES;
 
 pub const EVENT_SIZE: usize = 15;
 
-// The cell at the start of s, where so many instruction cells and event cells are promised.
-pub fn next_cell(code: usize, events: usize, s: &[u8]) -> Next
-    requires { size_of (role_of (promise code events)) s.now ≤ length s.now }
-    ensures { NextCell code events s.now result }
-{
-    if code != 0 {
-        return Next {
-            size: size_at(read::wide(s[0])),
-            code: code - 1,
-            events,
-        };
-    }
-    if events != 0 {
-        return Next {
-            size: EVENT_SIZE,
-            code,
-            events: events - 1,
-        };
-    }
-    Next {
-        size: HEAD_SIZE,
-        code: read::half(s, 3),
-        events: read::half(s, 5),
+impl Due {
+    // Nothing.
+    pub const NONE: Due = Due { code: 0, events: 0 };
+
+    // The cell at the start of s, where this is promised.
+    pub fn next_cell(self, s: &[u8]) -> Next
+        requires { size_of (role_of (promise self.code self.events)) s.now ≤ length s.now }
+        ensures { NextCell self.code self.events s.now result }
+    {
+        if self.code != 0 {
+            return Next {
+                size: size_at(usize::from(s[0])),
+                due: Due {
+                    code: self.code - 1,
+                    events: self.events,
+                },
+            };
+        }
+        if self.events != 0 {
+            return Next {
+                size: EVENT_SIZE,
+                due: Due {
+                    code: self.code,
+                    events: self.events - 1,
+                },
+            };
+        }
+        Next {
+            size: HEAD_SIZE,
+            due: Due {
+                code: read::half(s, 3),
+                events: read::half(s, 5),
+            },
+        }
     }
 }
 

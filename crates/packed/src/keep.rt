@@ -2,12 +2,11 @@
 ghost use Rattle.std.specs.Prelude.{◌≡◌, ◌≤◌, length};
 ghost use Rattle.cells.specs.Cells.{over};
 ghost use Rattle.cells.specs.Check.{max_image};
-ghost use Rattle.cells.specs.declared.refusal.Checked.TheVariants.{Good};
 ghost use Rattle.image.specs.Image.{image_answer};
 ghost use Rattle.packed.specs.Form.{packed};
 ghost use Rattle.packed.specs.Steps.{counted_at, most_kept, put_kept};
 
-use crate::form::{EVENT_SIZE, HEAD_SIZE};
+use crate::form::{Due, EVENT_SIZE, HEAD_SIZE};
 use crate::{form, put};
 use cells::read;
 use cells::read::CELL;
@@ -17,8 +16,7 @@ use cells::read::CELL;
 pub struct Counted {
     pub cells: usize,
     pub size: usize,
-    pub code: usize,
-    pub events: usize,
+    pub due: Due,
 }
 
 // The most bytes that n cells can keep: no cell keeps more than an event, and the first one is a head.
@@ -32,54 +30,55 @@ pub fn most_kept(n: usize) -> usize
     HEAD_SIZE + EVENT_SIZE * (n - 1)
 }
 
-// How many bytes the cells of a good image keep in all.
+// How many bytes the cells of a good image keep in all. (A `while`: the events of a function are counted at once.)
 pub fn length_kept(image: &[u8]) -> usize
-    requires { image_answer image.now ≡ Good }
+    requires { image_answer image.now ≡ Ok tt }
     ensures { result ≡ length (packed image.now) }
 {
     let n = image.len() / CELL;
-    let mut code = 0;
-    let mut events = 0;
+    let mut due = Due::NONE;
     let mut total = 0;
     let mut i = 0;
     while i < n {
         let a = CELL * i;
         let e = a + CELL;
-        let next = count_next(code, events, &image[a..e]);
+        let next = count_next(due, &image[a..e]);
         total += next.size;
-        code = next.code;
-        events = next.events;
+        due = next.due;
         i += next.cells;
     }
     total
 }
 
-// The cells to count, of which this is the first, where so many instruction cells and event cells are promised.
-fn count_next(code: usize, events: usize, cell: &[u8]) -> Counted
-    requires { (length cell.now ≡ 16) × (events ≤ 65535) }
-    ensures { result ≡ counted_at code events cell.now }
+// The cells to count, of which this is the first, where so many are promised.
+fn count_next(due: Due, cell: &[u8]) -> Counted
+    requires { (length cell.now ≡ 16) × (due.events ≤ 65535) }
+    ensures { result ≡ counted_at due.code due.events cell.now }
 {
-    if code != 0 {
+    if due.code != 0 {
         return Counted {
             cells: 1,
-            size: form::size_at(read::wide(cell[0])),
-            code: code - 1,
-            events,
+            size: form::size_at(usize::from(cell[0])),
+            due: Due {
+                code: due.code - 1,
+                events: due.events,
+            },
         };
     }
-    if events != 0 {
+    if due.events != 0 {
         return Counted {
-            cells: events,
-            size: EVENT_SIZE * events,
-            code,
-            events: 0,
+            cells: due.events,
+            size: EVENT_SIZE * due.events,
+            due: Due::NONE,
         };
     }
     Counted {
         cells: 1,
         size: HEAD_SIZE,
-        code: read::half(cell, 3),
-        events: read::half(cell, 5),
+        due: Due {
+            code: read::half(cell, 3),
+            events: read::half(cell, 5),
+        },
     }
 }
 
@@ -89,20 +88,16 @@ pub fn keep_cells(image: &[u8], out: &mut [u8]) -> usize
     ensures { (result ≡ length (packed image.now)) × (out.new ≡ over (packed image.now) out.old) }
 {
     let n = image.len() / CELL;
-    let mut code = 0;
-    let mut events = 0;
+    let mut due = Due::NONE;
     let mut at = 0;
-    let mut i = 0;
-    while i < n {
+    for i in 0..n {
         let a = CELL * i;
         let e = a + CELL;
-        let next = form::next_cell(code, events, &image[a..e]);
+        let next = due.next_cell(&image[a..e]);
         let k = next.size;
         put_kept(&image[a..e], k, n - i, &mut out[at..]);
-        code = next.code;
-        events = next.events;
+        due = next.due;
         at += k;
-        i += 1;
     }
     at
 }

@@ -7,51 +7,68 @@ mod keep;
 mod put;
 mod restore;
 
-ghost use Rattle.packed.specs.Operations.{PackDone, UnpackDone};
+ghost use Rattle.std.specs.Prelude.{◌≡◌};
+ghost use Rattle.packed.specs.Operations.{error_numbers, PackDone, UnpackDone};
+ghost use Rattle.packed.specs.declared.PackingError.TheVariants.{Refused};
 
 use cells::read::CELL;
-use cells::refusal::{Checked, Refusal};
+use cells::refusal::{Numbers, Refusal};
 
-// The answer: so many bytes are written; or a refusal; or the packed bytes end inside a cell or before a promised one (32), with the function's
-// position and the cell's.
+// Why nothing is written: a refusal; or the packed bytes end inside a cell or before a promised one (32), with the function's position and the
+// cell's.
 #[derive(Clone, Copy)]
-pub enum Packing {
-    Bytes(usize),
+pub enum PackingError {
     Refused(Refusal),
     Ends(usize, usize),
 }
 
-// Packs an image that the image check passes. Of no cells this is no bytes, and is answered at once. (Only where an output may be too short is the
-// packed form measured.)
-pub fn pack(image: &[u8], out: &mut [u8]) -> Packing
-    ensures { PackDone image.now out.old out.new result }
-{
-    if image.len() == 0 {
-        return Packing::Bytes(0);
+impl From<Refusal> for PackingError {
+    ghost from_gives = { λ x e. e ≡ Refused x };
+
+    fn from(refusal: Refusal) -> PackingError {
+        PackingError::Refused(refusal)
     }
-    let checked = image::check::check_image(image);
-    if let Checked::Refused(x) = checked {
-        return Packing::Refused(x);
-    }
-    if out.len() < keep::most_kept(image.len() / CELL) {
-        if out.len() < keep::length_kept(image) {
-            return Packing::Refused(Refusal::OutputTooShort);
-        }
-    }
-    Packing::Bytes(keep::keep_cells(image, out))
 }
 
-// Makes an image of its packed form.
-pub fn unpack(packed: &[u8], out: &mut [u8]) -> Packing
+// What documents 01 and 02 say of each.
+impl From<PackingError> for Numbers {
+    ghost from_gives = { λ e n. n ≡ error_numbers e };
+
+    fn from(e: PackingError) -> Numbers {
+        match e {
+            PackingError::Refused(x) => Numbers::from(x),
+            PackingError::Ends(position, detail) => Numbers {
+                number: 32,
+                position,
+                detail,
+            },
+        }
+    }
+}
+
+// Packs an image that the image check passes; how many bytes are written. Of no cells this is no bytes, and is answered at once. (Only where an output may be too short is the
+// packed form measured.)
+pub fn pack(image: &[u8], out: &mut [u8]) -> Result<usize, PackingError>
+    ensures { PackDone image.now out.old out.new result }
+{
+    if image.is_empty() {
+        return Ok(0);
+    }
+    image::check::check_image(image)?;
+    if out.len() < keep::most_kept(image.len() / CELL) && out.len() < keep::length_kept(image) {
+        return Err(PackingError::Refused(Refusal::OutputTooShort));
+    }
+    Ok(keep::keep_cells(image, out))
+}
+
+// Makes an image of its packed form; how many bytes are written.
+pub fn unpack(packed: &[u8], out: &mut [u8]) -> Result<usize, PackingError>
     ensures { UnpackDone packed.now out.old out.new result }
 {
-    let checked = restore::check_cells(packed);
-    let Packing::Bytes(n) = checked else {
-        return checked;
-    };
+    let n = restore::check_cells(packed)?;
     if out.len() < n {
-        return Packing::Refused(Refusal::OutputTooShort);
+        return Err(PackingError::Refused(Refusal::OutputTooShort));
     }
     restore::restore_cells(packed, &mut out[..n]);
-    Packing::Bytes(n)
+    Ok(n)
 }

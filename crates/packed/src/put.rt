@@ -11,26 +11,26 @@ pub fn put_first(s: &[u8], k: usize, out: &mut [u8])
     ensures { out.new ≡ over (take k s.now) out.old }
 {
     if 8 <= k {
-        put_ends(s, k, 8, out);
+        put_ends::<8>(s, k, out);
     } else if 4 <= k {
-        put_ends(s, k, 4, out);
+        put_ends::<4>(s, k, out);
     } else {
         buffer::copy(&s[..k], out);
     }
 }
 
-// They are the first w of them and the last w. (Copied to an array and from it: the compiler can't know that output and input don't overlap.)
-fn put_ends(s: &[u8], k: usize, w: usize, out: &mut [u8])
-    requires { (w ≤ 8) × (w ≤ k) × (k ≤ w + w) × (k ≤ length s.now) × (k ≤ length out.old) }
+// They are the first W of them and the last W. (Copied to an array and from it: the compiler can't know that output and input don't overlap.)
+fn put_ends<const W: usize>(s: &[u8], k: usize, out: &mut [u8])
+    requires { (W ≤ k) × (k ≤ W + W) × (k ≤ length s.now) × (k ≤ length out.old) }
     ensures { out.new ≡ over (take k s.now) out.old }
 {
-    let mut first = [0u8; 8];
-    let mut last = [0u8; 8];
-    let at = k - w;
-    buffer::copy(&s[..w], &mut first);
+    let mut first = [0u8; W];
+    let mut last = [0u8; W];
+    let at = k - W;
+    buffer::copy(&s[..W], &mut first);
     buffer::copy(&s[at..k], &mut last);
-    buffer::copy(&first[..w], out);
-    buffer::copy(&last[..w], &mut out[at..]);
+    buffer::copy(&first, out);
+    buffer::copy(&last, &mut out[at..]);
 }
 
 // The first 16 bytes of s, over the start of an output.

@@ -5,17 +5,15 @@ use Prim.Native.Nat.{ℕ, ◌+◌, ◌-◌, ◌/◌, ◌≤◌, ◌<◌}
 use native.Mathlib.Omega.{arith}
 use lib.ListN.{length, get_or, set, take, drop, length-append, length-drop, drop_of_length-le}
 use Rattle.cells.specs.Cells.{Cell, cells, flat}
-use Rattle.cells.specs.Functions.{Function, there, functions, function_of, function_from}
+use Rattle.cells.specs.Functions.{Function, there, functions, function_of}
 use Rattle.cells.specs.Lists.{All}
-use Rattle.cells.specs.Spans.{SpanAt, part}
 use Rattle.cells.specs.declared.walk.Part.{Part}
 use Rattle.cells.specs.declared.walk.Part.TheVariants.{Code, Events}
-use Rattle.cells.specs.declared.walk.Span.{Span}
-use Rattle.cells.proofs.Cells.{flat_append}
+use Rattle.cells.proofs.Cells.{length-cells, flat_append}
+use Rattle.cells.proofs.Walking.{cells_taken}
 use Rattle.cells.proofs.Lists.{all_at}
-use Rattle.cells.proofs.Spans.{drop-next, length_part}
+use Rattle.cells.proofs.Spans.{drop-next}
 use Rattle.image.specs.SiteCheck.{SitesPass}
-use Rattle.image.proofs.Steps.{functions_end}
 use Rattle.listing.specs.Promises.{TextWritten}
 use Rattle.listing.specs.Places.{ascii}
 use Rattle.listing.specs.Text.{line_feed, hex}
@@ -188,45 +186,42 @@ module _ (f : Function) where
           rw (function_text, ← append_assoc (heading (name_in f) 1) code_text events_text)
           (written_both (take at text) (heading (name_in f) 1 ++ code_text) events_text u (rw events_is at x))
 
--- ---- the functions of an image, written one behind another
+-- ---- the functions of an image, written one behind another: the bytes that are left of it
 
-pub record Laying (s text₀ text : List ℕ) (at to : ℕ) : Type 0 where
-  pub within : at ≤ length s / 16
-  pub listable : All ListableFunction (functions (drop at (cells s)))
+pub record Laying (s text₀ text left : List ℕ) (to : ℕ) : Type 0 where
+  pub listable : All ListableFunction (functions (cells left))
   pub long : length text ≡ length text₀
   pub done : List ℕ
   pub is : TextWritten done text₀ text to
-  pub rest : done ++ flat (all_lines (functions (drop at (cells s)))) ≡ pages_text s
+  pub rest : done ++ flat (all_lines (functions (cells left))) ≡ pages_text s
 
-pub laying_start : (s text : List ℕ) → SitesPass s → Laying s text text 0 0
+pub laying_start : (s text left : List ℕ) → SitesPass s → left ≡ s → Laying s text text left 0
 unfolding pages_text page_lines
-laying_start s text g = record {
-  within = omega arith;
-  listable = image_listable s g.image;
+laying_start s text left g e = record {
+  listable = rw e (image_listable s g.image);
   long = refl;
   done = [];
   is = written_none text;
-  rest = refl;
+  rest = rw e refl;
 }
 
-module _ {s text₀ text : List ℕ} {at to : ℕ} {r : Span} (w : Laying s text₀ text at to) (z : SpanAt s at r) (full : length (pages_text s) ≤ length text₀) where
+-- the next function, and what is left behind it
+module _ {s text₀ text left : List ℕ} {to : ℕ} (w : Laying s text₀ text left to) (t h c e : List ℕ) (x : functions (cells left) ≡ function_of h c e ∷ functions (cells t))
+    (full : length (pages_text s) ≤ length text₀) where
   abbrev this : Function
-  this = function_from (cells s) at
+  this = function_of h c e
 
   abbrev behind : List ℕ
-  behind = flat (all_lines (functions (drop (r.end / 16) (cells s))))
+  behind = flat (all_lines (functions (cells t)))
 
-  laying_listable : All ListableFunction (this ∷ functions (drop (r.end / 16) (cells s)))
-  laying_listable = rw z.next at w.listable
+  laying_listable : All ListableFunction (this ∷ functions (cells t))
+  laying_listable = rw x at w.listable
 
-  laying_split : flat (all_lines (functions (drop at (cells s)))) ≡ flat (function_lines this) ++ behind
-  laying_split = ap (λ (fs : List Function). flat (all_lines fs)) z.next ∙ flat_append (function_lines this) (all_lines (functions (drop (r.end / 16) (cells s))))
+  laying_split : flat (all_lines (functions (cells left))) ≡ flat (function_lines this) ++ behind
+  laying_split = ap (λ (fs : List Function). flat (all_lines fs)) x ∙ flat_append (function_lines this) (all_lines (functions (cells t)))
 
-  pub laying_head : length (part s r.head r.code) ≡ 16
-  laying_head = length_part s r.head r.code (omega (arith, z.head, z.code)) (omega (arith, z.code, z.events, z.end, z.within)) ∙ omega (arith, z.head, z.code)
-
-  pub laying_room : FunctionRoom (function_of (part s r.head r.code) (part s r.code r.events) (part s r.events r.end)) text to
-  laying_room = rw z.is (record {
+  pub laying_room : FunctionRoom this text to
+  laying_room = record {
     listable = laying_listable.0;
     room = omega (
       arith,
@@ -234,50 +229,55 @@ module _ {s text₀ text : List ℕ} {at to : ℕ} {r : Span} (w : Laying s text
       w.long,
       w.is.end,
       ap length w.rest,
-      length-append w.done (flat (all_lines (functions (drop at (cells s))))),
+      length-append w.done (flat (all_lines (functions (cells left)))),
       ap length laying_split,
       length-append (flat (function_lines this)) behind,
     );
-  })
+  }
 
-  pub laying_next : {last : List ℕ} {n : ℕ}
-      → TextWritten (take to text ++ flat (function_lines (function_of (part s r.head r.code) (part s r.code r.events) (part s r.events r.end)))) text last n
-      → length last ≡ length text → Laying s text₀ last (r.end / 16) n
+  pub laying_next : {last : List ℕ} {n : ℕ} → TextWritten (take to text ++ flat (function_lines this)) text last n → length last ≡ length text → Laying s text₀ last t n
   laying_next {last} {n} v l =
-      let t = flat (function_lines this) in
+      let u = flat (function_lines this) in
       record {
-        within = omega (arith, z.within);
         listable = laying_listable.1;
         long = l ∙ w.long;
-        done = w.done ++ t;
-        is = written_next w.is t (subst (λ (g : Function). TextWritten (take to text ++ flat (function_lines g)) text last n) z.is v);
-        rest = append_assoc w.done t behind ∙ ap (λ (u : List ℕ). w.done ++ u) (sym laying_split) ∙ w.rest;
+        done = w.done ++ u;
+        is = written_next w.is u v;
+        rest = append_assoc w.done u behind ∙ ap (λ (y : List ℕ). w.done ++ y) (sym laying_split) ∙ w.rest;
       }
 
-pub laying_end : {s text₀ text : List ℕ} {at to : ℕ} → Laying s text₀ text at to → length s / 16 ≤ at → TextWritten (pages_text s) text₀ text to
-laying_end {s} {text₀} {text} {at} {to} w h =
+pub laying_end : {s text₀ text left : List ℕ} {to : ℕ} → Laying s text₀ text left to → functions (cells left) ≡ [] → TextWritten (pages_text s) text₀ text to
+laying_end {s} {text₀} {text} {left} {to} w n =
     let d : w.done ≡ pages_text s =
-    sym (append-nil w.done) ∙ sym (ap (λ (fs : List Function). w.done ++ flat (all_lines fs)) (functions_end s at h)) ∙ w.rest in
+    sym (append-nil w.done) ∙ sym (ap (λ (fs : List Function). w.done ++ flat (all_lines fs)) n) ∙ w.rest in
     rw (← d) w.is
 
 -- ---- their lines, counted
 
-pub record Counted (s : List ℕ) (at lines : ℕ) : Type 0 where
-  pub within : at ≤ length s / 16
-  pub sum : lines + lines_of_all (functions (drop at (cells s))) ≡ lines_of_all (functions (cells s))
+pub record Counted (s left : List ℕ) (lines : ℕ) : Type 0 where
+  pub within : length left / 16 ≤ length s / 16
+  pub sum : lines + lines_of_all (functions (cells left)) ≡ lines_of_all (functions (cells s))
 
-module _ {s : List ℕ} {at lines : ℕ} {r : Span} (w : Counted s at lines) (z : SpanAt s at r) where
-  pub cells-there : (r.end - r.code) / 16 ≡ there (function_from (cells s) at)
-  cells-there = omega (arith, z.code, z.events, z.end)
+pub counted_start : (s left : List ℕ) → left ≡ s → Counted s left 0
+counted_start s left e = record { within = rw e (omega arith); sum = rw e (omega arith) }
 
-  counted-sum : lines + lines_of ((r.end - r.code) / 16) + lines_of_all (functions (drop (r.end / 16) (cells s))) ≡ lines_of_all (functions (cells s))
-  counted-sum = omega (arith, w.sum, ap lines_of_all z.next, ap lines_of cells-there)
+module _ {s left : List ℕ} {lines : ℕ} (w : Counted s left lines) (t h c e : List ℕ) (x : functions (cells left) ≡ function_of h c e ∷ functions (cells t)) where
+  taken : length left / 16 ≡ 1 + length c / 16 + length e / 16 + length t / 16
+  taken = cells_taken left t h c e x
 
-  pub counted-most : SitesPass s → lines + lines_of ((r.end - r.code) / 16) ≤ most_lines
+  pub few_cells : length s ≤ 65536 → length c / 16 + length e / 16 ≤ 4096
+  few_cells n = omega (arith, taken, w.within, n)
+
+  counted-sum : lines + lines_of (length c / 16 + length e / 16) + lines_of_all (functions (cells t)) ≡ lines_of_all (functions (cells s))
+  counted-sum =
+      let k : there (function_of h c e) ≡ length c / 16 + length e / 16 = omega (arith, length-cells c, length-cells e) in
+      omega (arith, w.sum, ap lines_of_all x, ap lines_of k)
+
+  pub counted-most : SitesPass s → lines + lines_of (length c / 16 + length e / 16) ≤ most_lines
   counted-most g = omega (arith, counted-sum, most_lines_lem s g)
 
-  pub counted_next : (n : ℕ) → n ≡ lines_of ((r.end - r.code) / 16) → Counted s (r.end / 16) (lines + n)
-  counted_next n e = record { within = omega (arith, z.within); sum = omega (arith, counted-sum, e) }
+  pub counted_next : (n : ℕ) → n ≡ lines_of (length c / 16 + length e / 16) → Counted s t (lines + n)
+  counted_next n p = record { within = omega (arith, taken, w.within); sum = omega (arith, counted-sum, p) }
 
-pub counted_end : {s : List ℕ} {at lines : ℕ} → Counted s at lines → length s / 16 ≤ at → lines ≡ lines_of_all (functions (cells s))
-counted_end {s} {at} {lines} w h = omega (arith, w.sum, ap lines_of_all (functions_end s at h))
+pub counted_end : {s left : List ℕ} {lines : ℕ} → Counted s left lines → functions (cells left) ≡ [] → lines ≡ lines_of_all (functions (cells s))
+counted_end w n = omega (arith, w.sum, ap lines_of_all n)

@@ -4,3 +4,4 @@ pub mod LinePlaces
 pub mod Apart
 pub mod Steps
 pub mod Cases
+pub mod Answer

@@ -8,24 +8,48 @@ mod names;
 ghost use Rattle.std.specs.Prelude.{◌≡◌, ◌++◌, ◌≤◌, length, take};
 ghost use Rattle.cells.specs.Cells.{cells, flat};
 ghost use Rattle.cells.specs.Functions.{function_of, functions};
-ghost use Rattle.cells.specs.declared.refusal.Checked.TheVariants.{Good};
 ghost use Rattle.image.specs.SiteCheck.{site_answer};
 ghost use Rattle.listing.specs.Promises.{TextWritten};
 ghost use Rattle.pages.specs.Pages.{lines_of, lines_of_all, most_lines, part_lines, function_lines, pages_text};
-ghost use Rattle.pages.specs.Promises.{PagesDone};
-ghost use Rattle.pages.specs.Steps.{name_table, PartRoom, FunctionRoom};
+ghost use Rattle.pages.specs.Promises.{error_numbers, PagesDone};
+ghost use Rattle.pages.specs.Steps.{PartRoom, FunctionRoom};
+ghost use Rattle.pages.specs.declared.PagesError.TheVariants.{Refused};
 
+use cells::read;
 use cells::read::CELL;
-use cells::refusal::{Checked, Refusal};
-use cells::walk::Part;
-use cells::{read, walk};
+use cells::refusal::{Numbers, Refusal};
+use cells::walk::{Function, Functions, Part};
+use names::Names;
 
-// The answer: so many bytes are written; or a refusal of the site check; or the buffer is shorter than the pages (30).
+// Why nothing is written: a refusal of the site check; or the buffer is shorter than the pages (30).
 #[derive(Clone, Copy)]
-pub enum Paged {
-    Laid(usize),
+pub enum PagesError {
     Refused(Refusal),
     TooShort,
+}
+
+impl From<Refusal> for PagesError {
+    ghost from_gives = { λ x e. e ≡ Refused x };
+
+    fn from(refusal: Refusal) -> PagesError {
+        PagesError::Refused(refusal)
+    }
+}
+
+// What documents 01 and 02 say of each.
+impl From<PagesError> for Numbers {
+    ghost from_gives = { λ e n. n ≡ error_numbers e };
+
+    fn from(e: PagesError) -> Numbers {
+        match e {
+            PagesError::Refused(x) => Numbers::from(x),
+            PagesError::TooShort => Numbers {
+                number: 30,
+                position: 0,
+                detail: 0,
+            },
+        }
+    }
 }
 
 // Bytes of a line, with its line feed.
@@ -34,35 +58,27 @@ pub const LINE: usize = 58;
 // Cells of a page.
 pub const PAGE: usize = 49;
 
-pub fn pages(image: &[u8], out: &mut [u8]) -> Paged
+// Lays out an image; how many bytes are written.
+pub fn pages(image: &[u8], out: &mut [u8]) -> Result<usize, PagesError>
     ensures { PagesDone image.now out.old out.new result }
 {
-    let checked = image::site_check(image);
-    if let Checked::Refused(x) = checked {
-        return Paged::Refused(x);
-    }
+    image::site_check(image)?;
     let lines = count_lines(image);
     if out.len() < LINE * lines {
-        return Paged::TooShort;
+        return Err(PagesError::TooShort);
     }
-    let names = names::table();
-    Paged::Laid(put_functions(&names, image, out))
+    let names = Names::table();
+    Ok(put_functions(&names, image, out))
 }
 
 // How many lines an accepted image takes.
 fn count_lines(image: &[u8]) -> usize
-    requires { site_answer image.now ≡ Good }
+    requires { site_answer image.now ≡ Ok tt }
     ensures { (result ≡ lines_of_all (functions (cells image.now))) × (result ≤ most_lines) }
 {
-    let total = image.len() / CELL;
-    let mut at: usize = 0;
-    let mut lines: usize = 0;
-    while at < total {
-        let f = walk::function_at(image, at);
-        let a = f.code;
-        let e = f.end;
-        lines = lines + lines_of((e - a) / CELL);
-        at = e / CELL;
+    let mut lines = 0;
+    for f in Functions::of(image) {
+        lines += lines_of(f.code.len() / CELL + f.events.len() / CELL);
     }
     lines
 }
@@ -72,61 +88,36 @@ fn lines_of(n: usize) -> usize
     requires { n ≤ 4096 }
     ensures { result ≡ lines_of n }
 {
-    if n == 0 {
-        return 1;
-    }
-    (n + PAGE - 1) / PAGE + n
+    n.div_ceil(PAGE).max(1) + n
 }
 
 // Every function of an accepted image, from the start on.
-fn put_functions(names: &[u8], image: &[u8], text: &mut [u8]) -> usize
-    requires { (names.now ≡ name_table) × (site_answer image.now ≡ Good) × (length (pages_text image.now) ≤ length text.old) }
+fn put_functions(names: &Names, image: &[u8], text: &mut [u8]) -> usize
+    requires { (site_answer image.now ≡ Ok tt) × (length (pages_text image.now) ≤ length text.old) }
     ensures { TextWritten (pages_text image.now) text.old text.new result }
 {
-    let total = image.len() / CELL;
-    let mut at: usize = 0;
-    let mut to: usize = 0;
-    while at < total {
-        let f = walk::function_at(image, at);
-        let h = f.head;
-        let a = f.code;
-        let b = f.events;
-        let e = f.end;
-        to = put_function(names, &image[h..a], &image[a..b], &image[b..e], text, to);
-        at = e / CELL;
+    let mut to = 0;
+    for f in Functions::of(image) {
+        to = put_function(names, f, text, to);
     }
     to
 }
 
-// A function by its head and its two parts, at a position of the text; the answer is the position behind it.
-fn put_function(
-    names: &[u8],
-    head: &[u8],
-    code: &[u8],
-    events: &[u8],
-    text: &mut [u8],
-    at: usize,
-) -> usize
-    requires { (names.now ≡ name_table) × (length head.now ≡ 16) × FunctionRoom (function_of head.now code.now events.now) text.old at }
-    ensures { TextWritten (take at text.old ++ flat (function_lines (function_of head.now code.now events.now))) text.old text.new result }
+// A function, at a position of the text; the answer is the position behind it.
+fn put_function(names: &Names, f: Function<'_>, text: &mut [u8], at: usize) -> usize
+    requires { (length f.head.now ≡ 16) × FunctionRoom (function_of f.head.now f.code.now f.events.now) text.old at }
+    ensures { TextWritten (take at text.old ++ flat (function_lines (function_of f.entry.head.now f.entry.code.now f.entry.events.now))) text.old text.new result }
 {
-    let name = read::half(head, 1);
+    let name = read::half(f.head, 1);
+    let n = f.code.len() / CELL;
     let a = line::put_heading(name, 1, text, at);
-    let b = put_part(names, Part::Code, name, 0, code, text, a);
-    put_part(
-        names,
-        Part::Events,
-        name,
-        code.len() / CELL,
-        events,
-        text,
-        b,
-    )
+    let b = put_part(names, Part::Code, name, 0, f.code, text, a);
+    put_part(names, Part::Events, name, n, f.events, text, b)
 }
 
 // The cells of a part, the first of them at a position of the function.
 fn put_part(
-    names: &[u8],
+    names: &Names,
     p: Part,
     name: usize,
     position: usize,
@@ -134,17 +125,13 @@ fn put_part(
     text: &mut [u8],
     at: usize,
 ) -> usize
-    requires { (names.now ≡ name_table) × PartRoom p name position (cells part.now) text.old at }
+    requires { PartRoom p name position (cells part.now) text.old at }
     ensures { TextWritten (take at text.old ++ flat (part_lines p name position (cells part.now))) text.old text.new result }
 {
-    let n = part.len() / CELL;
+    let (whole, _) = part.as_chunks::<CELL>();
     let mut to = at;
-    let mut i: usize = 0;
-    while i < n {
-        let a = CELL * i;
-        let b = a + CELL;
-        to = line::put_entry(names, p, name, position + i, &part[a..b], text, to);
-        i += 1;
+    for (i, cell) in whole.iter().enumerate() {
+        to = line::put_entry(names, p, name, position + i, cell, text, to);
     }
     to
 }

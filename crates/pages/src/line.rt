@@ -5,15 +5,16 @@ ghost use Rattle.listing.specs.Promises.{TextWritten};
 ghost use Rattle.listing.specs.Decimal.{decimal};
 ghost use Rattle.listing.specs.Places.{fill_left};
 ghost use Rattle.pages.specs.Pages.{heading, cell_line, new_page, entry_lines};
-ghost use Rattle.pages.specs.Steps.{name_table, cell_title, Listable, EntryRoom};
+ghost use Rattle.pages.specs.Steps.{cell_title, Listable, EntryRoom};
 
-use crate::{LINE, PAGE, names};
+use crate::names::Names;
+use crate::{LINE, PAGE};
 use cells::walk::Part;
 use listing::{append, digit, place, put_hex};
 
 // The cell at a position, and the heading before it where a page begins.
 pub fn put_entry(
-    names: &[u8],
+    names: &Names,
     p: Part,
     name: usize,
     position: usize,
@@ -21,7 +22,7 @@ pub fn put_entry(
     text: &mut [u8],
     at: usize,
 ) -> usize
-    requires { (names.now ≡ name_table) × EntryRoom p name position cell.now text.old at }
+    requires { EntryRoom p name position cell.now text.old at }
     ensures { TextWritten (take at text.old ++ flat (entry_lines p name position cell.now)) text.old text.new result }
 {
     let k = put_page(name, position, text, at);
@@ -33,16 +34,13 @@ fn put_page(name: usize, position: usize, text: &mut [u8], at: usize) -> usize
     requires { at + length (flat (new_page name position)) ≤ length text.old }
     ensures { TextWritten (take at text.old ++ flat (new_page name position)) text.old text.new result }
 {
-    if position == 0 {
-        return at;
-    }
-    if position % PAGE != 0 {
+    if position == 0 || position % PAGE != 0 {
         return at;
     }
     put_heading(name, position / PAGE + 1, text, at)
 }
 
-// The heading of a page of a function.
+// The heading of a page of a function. (Its digits stand at eight fixed places: loops that fill five and three of them from the right are no plainer.)
 pub fn put_heading(name: usize, page: usize, text: &mut [u8], at: usize) -> usize
     requires { at + 58 ≤ length text.old }
     ensures { TextWritten (take at text.old ++ heading name page) text.old text.new result }
@@ -61,14 +59,14 @@ pub fn put_heading(name: usize, page: usize, text: &mut [u8], at: usize) -> usiz
 
 // The line of a cell of a part, at its position in the function.
 fn put_cell(
-    names: &[u8],
+    names: &Names,
     p: Part,
     position: usize,
     cell: &[u8],
     text: &mut [u8],
     at: usize,
 ) -> usize
-    requires { (names.now ≡ name_table) × Listable p cell.now × (position < 4096) × (at + 58 ≤ length text.old) }
+    requires { Listable p cell.now × (position < 4096) × (at + 58 ≤ length text.old) }
     ensures { TextWritten (take at text.old ++ cell_line p position cell.now) text.old text.new result }
 {
     let mut line = [0u8; LINE];
@@ -77,8 +75,8 @@ fn put_cell(
 }
 
 // The same at the start of a buffer of its own. (What is put together there, and then copied as a whole, takes half the time.)
-fn put_line(names: &[u8], p: Part, position: usize, cell: &[u8], line: &mut [u8]) -> usize
-    requires { (names.now ≡ name_table) × Listable p cell.now × (position < 4096) × (length line.old ≡ 58) }
+fn put_line(names: &Names, p: Part, position: usize, cell: &[u8], line: &mut [u8]) -> usize
+    requires { Listable p cell.now × (position < 4096) × (length line.old ≡ 58) }
     ensures { TextWritten (cell_line p position cell.now) line.old line.new result }
 {
     let a = put_title(names, p, position, cell, line);
@@ -89,13 +87,13 @@ fn put_line(names: &[u8], p: Part, position: usize, cell: &[u8], line: &mut [u8]
 }
 
 // A cell's position, two blanks and its name.
-fn put_title(names: &[u8], p: Part, position: usize, cell: &[u8], line: &mut [u8]) -> usize
-    requires { (names.now ≡ name_table) × Listable p cell.now × (position < 4096) × (length line.old ≡ 58) }
+fn put_title(names: &Names, p: Part, position: usize, cell: &[u8], line: &mut [u8]) -> usize
+    requires { Listable p cell.now × (position < 4096) × (length line.old ≡ 58) }
     ensures { TextWritten (cell_title p position cell.now) line.old line.new result }
 {
     let a = put_position(position, line);
     let b = append(b"  ", line, a);
-    names::put_name(names, p, cell, line, b)
+    names.put_name(p, cell, line, b)
 }
 
 // A position in five places, blanks on the left.

@@ -13,8 +13,6 @@ use Rattle.cells.specs.Cells.{cells, flat}
 use Rattle.cells.specs.Functions.{Function, functions, cells_of, cells_of_all}
 use Rattle.cells.specs.WellFormed.{WellFormed}
 use Rattle.cells.specs.declared.refusal.Refusal.TheVariants.{Length, OutputTooShort}
-use Rattle.cells.specs.declared.refusal.Checked.{Checked}
-use Rattle.cells.specs.declared.refusal.Checked.TheVariants.{Good, Refused as RefusedBy}
 use Rattle.cells.proofs.Answers.{or_left, or_right, or-both}
 use Rattle.cells.proofs.Cells.{length-flat, length-cells}
 use Rattle.cells.proofs.Functions.{cells_of_functions}
@@ -48,7 +46,9 @@ use Rattle.passes.specs.Passes.{pass_all, count_all, pass_bytes, pass_count, pas
 use Rattle.passes.specs.Promises.{reply_of, is_written, length_written, Each, PassDone, RewriteDone}
 use Rattle.passes.specs.declared.Pass.{Pass}
 use Rattle.passes.specs.declared.Pass.TheVariants.{Cleanup, CrystalFold, Both}
-use Rattle.passes.specs.declared.Rewrite.{Rewrite}
+use Rattle.std.specs.Prelude.{Ok, Err}
+use Rattle.cells.specs.Checked.{Checked}
+use Rattle.passes.specs.Rewrite.{Rewrite}
 
 -- ---- a pass goes function by function, and keeps each well-formed, no longer, and good in its sites
 
@@ -88,8 +88,8 @@ one_few Cleanup f = omega (arith, clean_count_lem f.code)
 one_few (CrystalFold k) f = folds_few (rules_of k) f.code
 one_few (Both k) f = rewrite_few (rules_of k) f.code
 
-one_passes : (p : Pass) (position : ℕ) (f : Function) → site_check position f.code f.events ≡ Good
-    → site_check position (pass_one p f).code (pass_one p f).events ≡ Good
+one_passes : (p : Pass) (position : ℕ) (f : Function) → site_check position f.code f.events ≡ Ok tt
+    → site_check position (pass_one p f).code (pass_one p f).events ≡ Ok tt
 one_passes Cleanup position f e = clean_function_passes position f e
 one_passes (CrystalFold k) position f e = fold-function_passes (rules_of k) position f e
 one_passes (Both k) position f e = rewrite_passes (rules_of k) position f e
@@ -137,15 +137,15 @@ pass_few k s =
 long_enough : (s : List ℕ) → GoodImage s → good_length s ≡ true
 long_enough s g = simp (le-leb _ _ g.short, g.even)
 
-by_length : (t : Bool) (a : Checked) → cond t a (RefusedBy Length) ≡ Good → a ≡ Good
+by_length : (t : Bool) (a : Checked) → cond t a (Err Length) ≡ Ok tt → a ≡ Ok tt
 by_length true a e = e
 by_length false a e = let z : ◌≡◌ {A = ℕ} 0 1 = cc in absurd (omega arith)
 
-by_room : (t : Bool) → unless t OutputTooShort ≡ Good → t ≡ true
+by_room : (t : Bool) → unless t OutputTooShort ≡ Ok tt → t ≡ true
 by_room true e = refl
 by_room false e = let z : ◌≡◌ {A = ℕ} 0 1 = cc in absurd (omega arith)
 
-pub check_good : (s : List ℕ) (n : ℕ) → (pass_check s n ≡ Good) ↔ (SitesPass s × (length s ≤ n))
+pub check_good : (s : List ℕ) (n : ℕ) → (pass_check s n ≡ Ok tt) ↔ (SitesPass s × (length s ≤ n))
 unfolding pass_check
 check_good s n =
     let room = unless (leb (length s) n) OutputTooShort in (
@@ -164,16 +164,16 @@ record Facts (p : Pass) (s before after : List ℕ) (r : Rewrite) : Type 0 where
 
 facts : (p : Pass) (s before : List ℕ) (a : Checked) → pass_check s (length before) ≡ a
     → Facts p s before (output_as a (pass_bytes p s) before) (answer_as a (length (pass_bytes p s)) (pass_count p s))
-facts p s before (RefusedBy x) e = record {
+facts p s before (Err x) e = record {
   accepted = (
     (λ f. absurd (true≢false (sym f))),
-    (λ g. let f : RefusedBy x ≡ Good = sym e ∙ (check_good s (length before)).1 g in let z : ◌≡◌ {A = ℕ} 0 1 = cc in absurd (omega arith)),
+    (λ g. let f : Err x ≡ Ok tt = sym e ∙ (check_good s (length before)).1 g in let z : ◌≡◌ {A = ℕ} 0 1 = cc in absurd (omega arith)),
   );
   shorter = omega arith;
   again = λ f. absurd (true≢false (sym f));
   functions_back = λ f. absurd (true≢false (sym f));
 }
-facts p s before Good e =
+facts p s before (Ok tt) e =
     let g = (check_good s (length before)).0 e in
     let t = over-take (pass_bytes p s) before in
     record {

@@ -14,8 +14,6 @@ use Rattle.cells.specs.Check.{max_image}
 use Rattle.cells.specs.Functions.{Function, functions, cells_of_all}
 use Rattle.cells.specs.declared.refusal.Refusal.{Refusal}
 use Rattle.cells.specs.declared.refusal.Refusal.TheVariants.{Length, OutputTooShort}
-use Rattle.cells.specs.declared.refusal.Checked.{Checked}
-use Rattle.cells.specs.declared.refusal.Checked.TheVariants.{Good, Refused as RefusedBy}
 use Rattle.cells.proofs.Cells.{flat_append}
 use Rattle.cells.proofs.Over.{over-take}
 use Rattle.crystalfold.specs.Rules.{rules_of}
@@ -30,10 +28,11 @@ use Rattle.passes.specs.Promises.{is_written, length_written}
 use Rattle.passes.specs.Joined.{Room, Accepted, RefusedFor, written, sum, InOrder, ImagesJoin, SecondRefused, SecondUnread, FirstRefused, ImagesPart, AcceptedEnds}
 use Rattle.passes.specs.declared.Pass.{Pass}
 use Rattle.passes.specs.declared.Pass.TheVariants.{Cleanup, CrystalFold, Both}
-use Rattle.passes.specs.declared.Rewrite.{Rewrite}
-use Rattle.passes.specs.declared.Rewrite.TheVariants.{Written, Refused}
 use Rattle.passes.proofs.Done.{check_good, pass_done}
 use Rattle.passes.proofs.Answered.{run-refused}
+use Rattle.std.specs.Prelude.{Ok, Err}
+use Rattle.cells.specs.Checked.{Checked}
+use Rattle.passes.specs.Rewrite.{Rewrite}
 
 -- ---- the definitions over functions of both
 
@@ -76,10 +75,10 @@ module _ (p : Pass) (s u : List ℕ) where
   again e = (pass_done p s u (pass_output p s u) (pass_answer p s (length u)) refl refl).again e
 
 module _ (p : Pass) (s u : List ℕ) (g : SitesPass s) (l : length s ≤ length u) where
-  checked : pass_check s (length u) ≡ Good
+  checked : pass_check s (length u) ≡ Ok tt
   checked = (check_good s (length u)).1 (g, l)
 
-  answered : pass_answer p s (length u) ≡ Written (length (pass_bytes p s)) (report (pass_count p s))
+  answered : pass_answer p s (length u) ≡ Ok (record { length = (length (pass_bytes p s)); report = (report (pass_count p s)) })
   unfolding pass_answer
   answered = ap (λ (a : Checked). answer_as a (length (pass_bytes p s)) (pass_count p s)) checked
 
@@ -100,8 +99,8 @@ either_some : (m n : ℕ) → ltb 0 (m + n) ≡ (ltb 0 m || ltb 0 n)
 either_some zero n = ap (ltb 0) (zero-add n)
 either_some (suc m) n = rw (lt-ltb 0 (suc m + n) (omega arith), lt-ltb 0 (suc m) (omega arith))
 
-sum-written : (n m a b : ℕ) → Written (n + m) (report (a + b)) ≡ sum (Written n (report a)) (Written m (report b))
-sum-written n m a b = ap (λ (c : Bool). Written (n + m) (record { changed = c; num_rewrites = a + b })) (either_some a b)
+sum-written : (n m a b : ℕ) → Ok (record { length = (n + m); report = (report (a + b)) }) ≡ sum (Ok (record { length = n; report = (report a) })) (Ok (record { length = m; report = (report b) }))
+sum-written n m a b = ap (λ (c : Bool). Ok (record { length = (n + m); report = (record { changed = c; num_rewrites = a + b }) })) (either_some a b)
 
 in_order : (p : Pass) (s t u v w : List ℕ) → Room s t u v w → Accepted p s u → Accepted p t v → InOrder p s t u v w
 in_order p s t u v w room e f =
@@ -117,7 +116,7 @@ in_order p s t u v w room e f =
     record {
       answer =
           answered p (s ++ t) w g l
-          ∙ ap₂ (λ (n k : ℕ). Written n (report k)) (ap length x ∙ length-append (pass_bytes p s) (pass_bytes p t)) (counts-append p s t a.0)
+          ∙ ap₂ (λ (n k : ℕ). Ok (record { length = n; report = (report k) })) (ap length x ∙ length-append (pass_bytes p s) (pass_bytes p t)) (counts-append p s t a.0)
           ∙ sum-written (length (pass_bytes p s)) (length (pass_bytes p t)) (pass_count p s) (pass_count p t)
           ∙ sym (ap₂ sum (answered p s u a.0 a.1) (answered p t v b.0 b.1));
       bytes = bytes;
@@ -137,32 +136,32 @@ joined p s t u v w room e f = record {
 -- ---- one refused
 
 -- with an output that is long enough an operation is refused as the site check, whose image check tests the length too
-length-once : (b : Bool) (a v : Checked) → cond b (or_else (cond b a (RefusedBy Length)) v) (RefusedBy Length) ≡ or_else (cond b a (RefusedBy Length)) v
+length-once : (b : Bool) (a v : Checked) → cond b (or_else (cond b a (Err Length)) v) (Err Length) ≡ or_else (cond b a (Err Length)) v
 length-once true a v = refl
 length-once false a v = refl
 
 check_in : (s : List ℕ) (n : ℕ) → length s ≤ n → pass_check s n ≡ site_answer s
 unfolding pass_check site_answer image_answer
 check_in s n l =
-    ap (λ (b : Bool). cond (good_length s) (or_else (unless b OutputTooShort) (site_answer s)) (RefusedBy Length)) (le-leb (length s) n l)
+    ap (λ (b : Bool). cond (good_length s) (or_else (unless b OutputTooShort) (site_answer s)) (Err Length)) (le-leb (length s) n l)
     ∙ length-once (good_length s) _ _
 
-refused_check : (a : Checked) (n c : ℕ) (x : Refusal) → answer_as a n c ≡ Refused x → a ≡ RefusedBy x
-refused_check Good n c x e = absurd (true≢false (ap is_written e))
-refused_check (RefusedBy y) n c x e = cc
+refused_check : (a : Checked) (n c : ℕ) (x : Refusal) → answer_as a n c ≡ Err x → a ≡ Err x
+refused_check (Ok tt) n c x e = absurd (true≢false (ap is_written e))
+refused_check (Err y) n c x e = cc
 
-refused-by : (p : Pass) (s u : List ℕ) (x : Refusal) → pass_check s (length u) ≡ RefusedBy x → RefusedFor p s u x
+refused-by : (p : Pass) (s u : List ℕ) (x : Refusal) → pass_check s (length u) ≡ Err x → RefusedFor p s u x
 refused-by p s u x e = let r = run-refused p s u refl e in record { answer = sym r.0; output = sym r.1 }
 
-by-refused : (p : Pass) (s : List ℕ) (n : ℕ) (x : Refusal) → pass_answer p s n ≡ Refused x → pass_check s n ≡ RefusedBy x
+by-refused : (p : Pass) (s : List ℕ) (n : ℕ) (x : Refusal) → pass_answer p s n ≡ Err x → pass_check s n ≡ Err x
 unfolding pass_answer
 by-refused p s n x e = refused_check (pass_check s n) (length (pass_bytes p s)) (pass_count p s) x e
 
-site-refused : (p : Pass) (s u : List ℕ) (x : Refusal) → length s ≤ length u → pass_answer p s (length u) ≡ Refused x → site_answer s ≡ RefusedBy x
+site-refused : (p : Pass) (s u : List ℕ) (x : Refusal) → length s ≤ length u → pass_answer p s (length u) ≡ Err x → site_answer s ≡ Err x
 site-refused p s u x l e = sym (check_in s (length u) l) ∙ by-refused p s (length u) x e
 
 -- the joined image, by the site check's answer
-joined_refused : (p : Pass) (s t u v w : List ℕ) (x : Refusal) → Room s t u v w → site_answer (s ++ t) ≡ RefusedBy x → RefusedFor p (s ++ t) w x
+joined_refused : (p : Pass) (s t u v w : List ℕ) (x : Refusal) → Room s t u v w → site_answer (s ++ t) ≡ Err x → RefusedFor p (s ++ t) w x
 joined_refused p s t u v w x room e = refused-by p (s ++ t) w x (check_in (s ++ t) (length w) (omega (arith, length-append s t, room.joined)) ∙ e)
 
 pub second_refused : SecondRefused

@@ -1,22 +1,20 @@
 -- The functions of an accepted image in the output: cleaned, each written behind the one before; as they are; and folded there.
 use mathlib.Core.Path.{◌≡◌, refl, sym, ◌∙◌, ap, ap₂}
 use mathlib.Core.List.{List, [], ◌∷◌, ◌++◌, map, append-nil, append_assoc}
-use Prim.Native.Nat.{ℕ, ◌+◌, ◌-◌, ◌*◌, ◌/◌, ◌≤◌}
+use Prim.Native.Nat.{ℕ, ◌+◌, ◌-◌, ◌*◌, ◌/◌, ◌%◌, ◌≤◌}
 use native.Mathlib.Nat.{le_refl, zero-add}
 use native.Mathlib.Omega.{arith}
 use lib.ListN.{length, take, drop, length-append}
 use Rattle.cells.specs.Check.{max_image}
 use Rattle.cells.specs.Cells.{Cell, cells, flat, over, Full}
-use Rattle.cells.specs.Functions.{Function, functions, function_of, function_from, cells_of, cells_of_all}
+use Rattle.cells.specs.Functions.{Function, functions, function_of, cells_of, cells_of_all}
 use Rattle.cells.specs.Lists.{All}
-use Rattle.cells.specs.Spans.{part, SpanAt}
 use Rattle.cells.specs.WellFormed.{WellFormed}
-use Rattle.cells.specs.declared.refusal.Checked.TheVariants.{Good}
-use Rattle.cells.specs.declared.walk.Span.{Span}
 use Rattle.cells.proofs.Cells.{length-cells, length-flat, cells-flat, flat-cells, flat_append}
 use Rattle.cells.proofs.Functions.{cells_of_functions}
 use Rattle.cells.proofs.Over.{over_nil, over-take, over-drop, length_over, copied}
 use Rattle.cells.proofs.Spans.{length_part}
+use Rattle.cells.proofs.Walking.{cells_taken}
 use Rattle.cleanup.specs.Cleanup.{clean_function, clean_count}
 use Rattle.cleanup.specs.Output.{Holds}
 use Rattle.cleanup.specs.declared.FunctionReport.{FunctionReport}
@@ -32,13 +30,13 @@ use Rattle.crystalfold.proofs.FoldWellFormed.{fold_well_formed, fold-cells}
 use Rattle.image.specs.SiteCheck.{site_answer, SitesPass}
 use Rattle.image.proofs.Again.{image_formed, all_full, map_formed}
 use Rattle.image.proofs.Good.{site-good}
-use Rattle.image.proofs.Steps.{functions_end}
 use Rattle.rewrite.specs.AllFunctions.{sum_of, clean_all, fold_all, clean_count_all, folds_of_all}
 use Rattle.rewrite.proofs.FoldImage.{fold_image, folds_image, image_registers}
 use Rattle.passes.specs.Steps.{Room, AllWritten, Folding, FoldedStart}
 use Rattle.passes.specs.declared.Pass.TheVariants.{Cleanup}
 use Rattle.passes.specs.declared.Total.{Total}
 use Rattle.passes.proofs.Done.{bytes-length, bytes_shorter}
+use Rattle.std.specs.Prelude.{Ok}
 
 -- ---- cleaned
 
@@ -46,29 +44,28 @@ use Rattle.passes.proofs.Done.{bytes-length, bytes_shorter}
 abbrev cleaned : Function → ℕ
 cleaned f = clean_count f.code
 
--- at the head at, `to` cells are written and so many rewrites counted
-pub record Walked (s out₀ out : List ℕ) (at to rewrites : ℕ) : Type 0 where
-  pub within : at ≤ length s / 16
-  pub formed : All WellFormed (functions (drop at (cells s)))
+-- `to` cells are written and so many rewrites counted; the functions of the bytes `left` are still to come
+pub record Walked (s out₀ out left : List ℕ) (to rewrites : ℕ) : Type 0 where
+  pub formed : All WellFormed (functions (cells left))
   pub done : List Cell
   pub count : length done ≡ to
   pub size : length (flat done) ≡ 16 * to
-  pub fewer : to ≤ at
-  pub few : rewrites ≤ at
+  pub fewer : to + length left / 16 ≤ length s / 16
+  pub few : rewrites + length left / 16 ≤ length s / 16
   pub long : length out ≡ length out₀
   pub is : out ≡ over (flat done) out₀
-  pub parts : cells_of_all (map clean_function (functions (cells s))) ≡ done ++ cells_of_all (map clean_function (functions (drop at (cells s))))
-  pub sum : rewrites + sum_of cleaned (functions (drop at (cells s))) ≡ sum_of cleaned (functions (cells s))
+  pub parts : cells_of_all (map clean_function (functions (cells s))) ≡ done ++ cells_of_all (map clean_function (functions (cells left)))
+  pub sum : rewrites + sum_of cleaned (functions (cells left)) ≡ sum_of cleaned (functions (cells s))
 
-pub short_image : (s : List ℕ) → site_answer s ≡ Good → length s ≤ max_image
+pub short_image : (s : List ℕ) → site_answer s ≡ Ok tt → length s ≤ max_image
 short_image s g = ((site-good s).0 g).image.short
 
-pub walked_start : (s out₀ : List ℕ) → site_answer s ≡ Good → Walked s out₀ out₀ 0 0 0
-walked_start s out₀ g =
+pub walked_start : (s out₀ : List ℕ) → site_answer s ≡ Ok tt → {left : List ℕ} → left ≡ s → Walked s out₀ out₀ left 0 0
+walked_start s out₀ g {left} e =
     let q = (site-good s).0 g in
+    let n : length left ≡ length s = ap length e in
     record {
-      within = omega arith;
-      formed = image_formed s q.image;
+      formed = rw e (image_formed s q.image);
       done = [];
       count = refl;
       size = refl;
@@ -76,84 +73,75 @@ walked_start s out₀ g =
       few = omega arith;
       long = refl;
       is = sym (over_nil out₀);
-      parts = refl;
-      sum = omega arith;
+      parts = ap (λ (t : List ℕ). cells_of_all (map clean_function (functions (cells t)))) (sym e);
+      sum = omega (arith, ap (λ (t : List ℕ). sum_of cleaned (functions (cells t))) e);
     }
 
--- ---- a turn: the function whose head is the cell at
+-- ---- a turn: the function of the head h, the instructions' bytes code and the events' bytes evs, behind which the bytes `behind` are left
 
-module _ {s out₀ out : List ℕ} {at to rewrites : ℕ} {g : Span} (w : Walked s out₀ out at to rewrites) (z : SpanAt s at g) (enough : length s ≤ length out₀) where
-  abbrev f : Function
-  f = function_from (cells s) at
-
+module _ {s out₀ out left : List ℕ} {to rewrites : ℕ} (w : Walked s out₀ out left to rewrites) (behind h code evs : List ℕ)
+    (z : functions (cells left) ≡ function_of h code evs ∷ functions (cells behind)) (code_even : length code % 16 ≡ 0) (events_even : length evs % 16 ≡ 0)
+    (enough : length s ≤ length out₀) where
   abbrev this : Function
-  this = function_of (part s g.head g.code) (part s g.code g.events) (part s g.events g.end)
+  this = function_of h code evs
 
-  all_formed : All WellFormed (f ∷ functions (drop (g.end / 16) (cells s)))
-  all_formed = rw z.next at w.formed
+  taken : length left / 16 ≡ 1 + length code / 16 + length evs / 16 + length behind / 16
+  taken = cells_taken left behind h code evs z
 
-  this_formed : WellFormed this
-  this_formed = rw z.is all_formed.0
+  all_formed : All WellFormed (this ∷ functions (cells behind))
+  all_formed = rw z at w.formed
 
   -- it has room in what is left of the output
-  pub room : Room (part s g.head g.code) (part s g.code g.events) (part s g.events g.end) (take (length out - 16 * to) (drop (16 * to) out))
-  room =
-      let lc : length (part s g.code g.events) ≡ 16 * length f.code =
-      length_part s g.code g.events (omega (arith, z.events)) (omega (arith, z.within, z.end)) ∙ omega (arith, z.events) in
-      let le : length (part s g.events g.end) ≡ 16 * length f.events =
-      length_part s g.events g.end (omega (arith, z.end)) z.within ∙ omega (arith, z.end) in
-      record {
-        formed = this_formed;
-        code_even = rw lc (omega arith);
-        events_even = rw le (omega arith);
-        room =
-            rw (lc, le, length_part out (16 * to) (length out) (omega (arith, w.within, w.fewer, w.long)) (le_refl (length out)))
-            (omega (arith, z.within, z.code, z.events, z.end, w.fewer, w.long));
-      }
+  pub room : Room h code evs (take (length out - 16 * to) (drop (16 * to) out))
+  room = record {
+    formed = all_formed.0;
+    code_even = code_even;
+    events_even = events_even;
+    room =
+        rw (length_part out (16 * to) (length out) (omega (arith, w.fewer, w.long, enough)) (le_refl (length out)))
+        (omega (arith, taken, code_even, events_even, w.fewer, w.long, enough));
+  }
 
   module _ (last : List ℕ) (r : FunctionReport) (x : Holds (clean_function this) (cleaned this) (take (length out - 16 * to) (drop (16 * to) out)) last r) where
     -- it takes no more cells than before, and counts no more than its instructions
-    pub turn_few : (16 * (at + 1 + r.instructions + r.events) ≤ g.end) × (16 * (at + r.rewrites) ≤ g.end) × (length (cells_of (clean_function this)) ≡ 1 + r.instructions + r.events)
+    pub turn_few : (to + (1 + r.instructions + r.events) + length behind / 16 ≤ length s / 16) × (rewrites + r.rewrites + length behind / 16 ≤ length s / 16)
+        × (length (cells_of (clean_function this)) ≡ 1 + r.instructions + r.events)
     turn_few =
-        let h : Function = clean_function this in
-        let n = length-append h.code h.events in
+        let n = length-append (clean_function this).code (clean_function this).events in
         let m = length-append this.code this.events in
-        let c : length this.code ≡ length f.code = ap (λ (y : Function). length y.code) z.is in
-        let e : length this.events ≡ length f.events = ap (λ (y : Function). length y.events) z.is in (
-          omega (arith, n, m, clean_cells-fewer this, x.instructions, x.events, c, e, z.code, z.events, z.end),
-          omega (arith, x.rewrites, clean_count_lem this.code, c, z.code, z.events, z.end),
+        let c = length-cells code in
+        let e = length-cells evs in (
+          omega (arith, n, m, clean_cells-fewer this, x.instructions, x.events, c, e, taken, w.fewer),
+          omega (arith, x.rewrites, clean_count_lem this.code, c, taken, w.few),
           omega (arith, n, x.instructions, x.events),
         )
 
-    pub walked_next : Walked s out₀ (take (16 * to) out ++ (last ++ drop (length out - 16 * to) (drop (16 * to) out))) (g.end / 16) (to + 1 + r.instructions + r.events) (rewrites + r.rewrites)
+    pub walked_next : Walked s out₀ (take (16 * to) out ++ (last ++ drop (length out - 16 * to) (drop (16 * to) out))) behind (to + (1 + r.instructions + r.events)) (rewrites + r.rewrites)
     walked_next =
         let h : Function = clean_function this in
-        let rest : List Function = functions (drop (g.end / 16) (cells s)) in
+        let rest : List Function = functions (cells behind) in
         let done : List Cell = w.done ++ cells_of h in
-        let l = length-flat (cells_of h) (clean_well_formed this this_formed).full in
-        let size : length (flat done) ≡ 16 * (to + 1 + r.instructions + r.events) =
+        let l = length-flat (cells_of h) (clean_well_formed this all_formed.0).full in
+        let size : length (flat done) ≡ 16 * (to + (1 + r.instructions + r.events)) =
         rw (flat_append w.done (cells_of h)) (omega (arith, length-append (flat w.done) (flat (cells_of h)), w.size, l, turn_few.2)) in
         let is : take (16 * to) out ++ (last ++ drop (length out - 16 * to) (drop (16 * to) out)) ≡ over (flat done) out₀ =
-        joined w.done (cells_of h) out₀ out last (16 * to) w.size (omega (arith, w.within, w.fewer, w.long)) w.is x.bytes in
-        let here : functions (drop at (cells s)) ≡ this ∷ rest = z.next ∙ ap (λ (y : Function). y ∷ rest) (sym z.is) in
+        joined w.done (cells_of h) out₀ out last (16 * to) w.size (omega (arith, w.fewer, w.long, enough)) w.is x.bytes in
         record {
-          within = omega (arith, z.within);
           formed = all_formed.1;
           done = done;
           count = omega (arith, length-append w.done (cells_of h), w.count, turn_few.2);
           size = size;
-          fewer = omega (arith, w.fewer, turn_few.0);
-          few = omega (arith, w.few, turn_few.1);
-          long = rw is (length_over (flat done) out₀ (omega (arith, size, z.within, w.fewer, turn_few.0)));
+          fewer = turn_few.0;
+          few = turn_few.1;
+          long = rw is (length_over (flat done) out₀ (omega (arith, size, turn_few.0, enough)));
           is = is;
-          parts = w.parts ∙ ap (λ (fs : List Function). w.done ++ cells_of_all (map clean_function fs)) here ∙ sym (append_assoc w.done (cells_of h) (cells_of_all (map clean_function rest)));
-          sum = omega (arith, w.sum, ap (sum_of cleaned) here, x.rewrites);
+          parts = w.parts ∙ ap (λ (fs : List Function). w.done ++ cells_of_all (map clean_function fs)) z ∙ sym (append_assoc w.done (cells_of h) (cells_of_all (map clean_function rest)));
+          sum = omega (arith, w.sum, ap (sum_of cleaned) z, x.rewrites);
         }
 
-pub walked_end : (s out₀ out : List ℕ) (at to rewrites : ℕ) → Walked s out₀ out at to rewrites → length s / 16 ≤ at
-    → AllWritten (clean_all (functions (cells s))) (clean_count_all (functions (cells s))) out₀ out (record { cells = to; rewrites = rewrites })
-walked_end s out₀ out at to rewrites w h =
-    let n = functions_end s at h in
+pub walked_end : (s out₀ out left : List ℕ) (t : Total) → Walked s out₀ out left t.cells t.rewrites → functions (cells left) ≡ []
+    → AllWritten (clean_all (functions (cells s))) (clean_count_all (functions (cells s))) out₀ out t
+walked_end s out₀ out left t w n =
     let c : cells_of_all (clean_all (functions (cells s))) ≡ w.done =
     w.parts ∙ ap (λ (fs : List Function). w.done ++ cells_of_all (map clean_function fs)) n ∙ append-nil w.done in
     record {
@@ -164,7 +152,7 @@ walked_end s out₀ out at to rewrites w h =
 
 -- ---- the functions as they are
 
-pub copied_functions : (s out : List ℕ) → site_answer s ≡ Good → (last : List ℕ) → last ≡ take (length s) s ++ drop (length s) out
+pub copied_functions : (s out : List ℕ) → site_answer s ≡ Ok tt → (last : List ℕ) → last ≡ take (length s) s ++ drop (length s) out
     → AllWritten (functions (cells s)) 0 out last (record { cells = length s / 16; rewrites = 0 })
 copied_functions s out g last e =
     let q = ((site-good s).0 g).image in
@@ -238,7 +226,7 @@ sum_few : (fs : List Function) → clean_count_all fs ≤ length (cells_of_all f
 sum_few [] = omega arith
 sum_few (f ∷ fs) = omega (arith, clean_count_lem f.code, length-append (cells_of f) (cells_of_all fs), length-append f.code f.events, sum_few fs)
 
-module _ (s out : List ℕ) (good : site_answer s ≡ Good) (enough : length s ≤ length out) where
+module _ (s out : List ℕ) (good : site_answer s ≡ Ok tt) (enough : length s ≤ length out) where
   sites : SitesPass s
   sites = (site-good s).0 good
 

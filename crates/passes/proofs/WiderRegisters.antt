@@ -12,20 +12,19 @@ use lib.ListN.{length}
 use Rattle.cells.specs.Answers.{or_else, unless}
 use Rattle.cells.specs.Check.{registers}
 use Rattle.cells.specs.declared.refusal.Refusal.TheVariants.{Length, Operand, OutputTooShort}
-use Rattle.cells.specs.declared.refusal.Checked.{Checked}
-use Rattle.cells.specs.declared.refusal.Checked.TheVariants.{Refused as RefusedBy}
 use Rattle.cells.proofs.WiderRegisters.{AsBefore, or_as_before, test_as_before}
 use Rattle.image.specs.Image.{good_length}
 use Rattle.image.proofs.WiderRegisters.{sites_below, sites_today, sites_as_before}
 use Rattle.passes.specs.Passes.{pass_bytes, pass_count, pass_check, answer_as, output_as, pass_answer, pass_output}
 use Rattle.passes.specs.declared.Pass.{Pass}
-use Rattle.passes.specs.declared.Rewrite.{Rewrite}
-use Rattle.passes.specs.declared.Rewrite.TheVariants.{Refused}
+use Rattle.std.specs.Prelude.{Err}
+use Rattle.cells.specs.Checked.{Checked}
+use Rattle.passes.specs.Rewrite.{Rewrite}
 
 -- ---- with a limit
 
 abbrev pub check_below : ℕ → List ℕ → ℕ → Checked
-check_below limit s n = cond (good_length s) (or_else (unless (leb (length s) n) OutputTooShort) (sites_below limit s)) (RefusedBy Length)
+check_below limit s n = cond (good_length s) (or_else (unless (leb (length s) n) OutputTooShort) (sites_below limit s)) (Err Length)
 
 abbrev pub answer_below : ℕ → Pass → List ℕ → ℕ → Rewrite
 answer_below limit p s n = answer_as (check_below limit s n) (length (pass_bytes p s)) (pass_count p s)
@@ -37,7 +36,7 @@ output_below limit p s before = output_as (check_below limit s (length before)) 
 
 check_today : (s : List ℕ) (n : ℕ) → check_below registers s n ≡ pass_check s n
 unfolding pass_check
-check_today s n = ap (λ (r : Checked). cond (good_length s) (or_else (unless (leb (length s) n) OutputTooShort) r) (RefusedBy Length)) (sites_today s)
+check_today s n = ap (λ (r : Checked). cond (good_length s) (or_else (unless (leb (length s) n) OutputTooShort) r) (Err Length)) (sites_today s)
 
 pub answer_today : (p : Pass) (s : List ℕ) (n : ℕ) → answer_below registers p s n ≡ pass_answer p s n
 unfolding pass_answer
@@ -59,7 +58,7 @@ check_as_before limit lower s n =
 abbrev pub SameOperation : ℕ → Pass → List ℕ → List ℕ → Type 0
 SameOperation limit p s before =
     ((answer_below limit p s (length before) ≡ pass_answer p s (length before)) × (output_below limit p s before ≡ pass_output p s before))
-    ⊎ ((position : ℕ) × (d : ℕ) × (answer_below limit p s (length before) ≡ Refused (Operand position d)))
+    ⊎ ((position : ℕ) × (d : ℕ) × (answer_below limit p s (length before) ≡ Err (Operand position d)))
 
 same_operation : (limit : ℕ) (p : Pass) (s before : List ℕ) → AsBefore (check_below limit s (length before)) (pass_check s (length before)) → SameOperation limit p s before
 unfolding pass_answer pass_output

@@ -3,3 +3,4 @@ pub mod Promises
 pub mod Steps
 pub mod Worked
 pub mod Joined
+pub mod Rewrite

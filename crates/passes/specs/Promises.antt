@@ -1,6 +1,6 @@
 -- Promise: what the rewriting operations promise: s is the image, `before` and `after` are what the lent output holds at entry and at exit, and r is
 -- the answer. `answer` and `bytes` say everything outright; the other fields say what follows.
-use Rattle.std.specs.Prelude.{ℕ, ◌≤◌, ◌≡◌, ◌↔◌, List, [], ◌∷◌, Bool, true, false, length, take}
+use Rattle.std.specs.Prelude.{ℕ, ◌≤◌, ◌≡◌, ◌↔◌, List, [], ◌∷◌, Bool, true, false, length, take, Ok, Err}
 use Rattle.cells.specs.Cells.{cells}
 use Rattle.cells.specs.Functions.{Function, functions}
 use Rattle.cells.specs.Lists.{All}
@@ -14,8 +14,7 @@ use Rattle.image.specs.SiteCheck.{SitesPass}
 use Rattle.passes.specs.Passes.{pass_all, pass_answer, pass_output}
 use Rattle.passes.specs.declared.Pass.{Pass}
 use Rattle.passes.specs.declared.Pass.TheVariants.{Both}
-use Rattle.passes.specs.declared.Rewrite.{Rewrite}
-use Rattle.passes.specs.declared.Rewrite.TheVariants.{Written, Refused}
+use Rattle.passes.specs.Rewrite.{Rewrite}
 
 -- an answer as document 01 sets it out: the length written, the count of rewrites and `changed`; or number, position and detail
 pub data Reply : Type 0 where
@@ -23,16 +22,16 @@ pub data Reply : Type 0 where
   refusal : Numbers → Reply
 
 abbrev pub reply_of : Rewrite → Reply
-reply_of (Written n report) = success n report.num_rewrites report.changed
-reply_of (Refused x) = refusal (numbers_of x)
+reply_of (Ok written) = success written.length written.report.num_rewrites written.report.changed
+reply_of (Err x) = refusal (numbers_of x)
 
 abbrev pub is_written : Rewrite → Bool
-is_written (Written n report) = true
-is_written (Refused x) = false
+is_written (Ok written) = true
+is_written (Err x) = false
 
 abbrev pub length_written : Rewrite → ℕ
-length_written (Written n report) = n
-length_written (Refused x) = 0
+length_written (Ok written) = written.length
+length_written (Err x) = 0
 
 -- the functions of two images, position by position
 abbrev pub Each : (Function → Function → Type 0) → List Function → List Function → Type 0

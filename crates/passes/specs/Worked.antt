@@ -1,6 +1,6 @@
 -- Worked: the rewriting operations on images and lent outputs written out by hand from document 01 ('Answers of the operations', 'Cells on
 -- either edge') and document 02 (W2, W4, W7, W12): the reply, and every byte of the output at exit.
-use Rattle.std.specs.Prelude.{◌≡◌, refl, Bool, true, false, List, [], ◌∷◌, ◌++◌, map, ℕ, length, replicate, take, drop}
+use Rattle.std.specs.Prelude.{◌≡◌, refl, Bool, true, false, List, [], ◌∷◌, ◌++◌, map, ℕ, length, replicate, take, drop, Ok}
 use Rattle.std.specs.Float.Ieee as Ieee
 use Rattle.leaves.specs.Signed.{wrap, add_i32}
 use Rattle.leaves.specs.Float.{float_of, bits_of, div_f64}
@@ -27,8 +27,7 @@ use Rattle.passes.specs.Passes.{pass_bytes, pass_count, pass_check, pass_answer,
 use Rattle.passes.specs.Joined.{written, sum}
 use Rattle.passes.specs.declared.Pass.{Pass}
 use Rattle.passes.specs.declared.Pass.TheVariants.{Cleanup, CrystalFold, Both}
-use Rattle.passes.specs.declared.Rewrite.{Rewrite}
-use Rattle.passes.specs.declared.Rewrite.TheVariants.{Written}
+use Rattle.passes.specs.Rewrite.{Rewrite}
 
 pub record OperationCase : Type 0 where
   pub pass : Pass
@@ -195,7 +194,7 @@ operations_hold = refl
 -- ---- two answers as one
 
 abbrev pub answer : ℕ → ℕ → Bool → Rewrite
-answer n count changed = Written n (record { changed = changed; num_rewrites = count })
+answer n count changed = Ok (record { length = n; report = (record { changed = changed; num_rewrites = count }) })
 
 pub record SumCase : Type 0 where
   pub first : Rewrite

@@ -14,8 +14,6 @@ use Rattle.cells.specs.Check.{max_image}
 use Rattle.cells.specs.Refusals.{numbers_of}
 use Rattle.cells.specs.declared.refusal.Refusal.{Refusal}
 use Rattle.cells.specs.declared.refusal.Refusal.TheVariants.{OutputTooShort}
-use Rattle.cells.specs.declared.refusal.Checked.{Checked}
-use Rattle.cells.specs.declared.refusal.Checked.TheVariants.{Good, Refused as RefusedBy}
 use Rattle.cells.proofs.Facts.{by_test, and_true}
 use Rattle.cells.proofs.Over.{over_nil, over-over}
 use Rattle.crystalfold.specs.declared.rules.RuleSet.TheVariants.{Default}
@@ -23,7 +21,6 @@ use Rattle.image.specs.Image.{good_length}
 use Rattle.passes.specs.Promises.{length_written}
 use Rattle.passes.specs.Passes.{pass_bytes, pass_count, pass_check, answer_as, output_as, pass_answer, pass_output}
 use Rattle.passes.specs.declared.Pass.TheVariants.{Both}
-use Rattle.passes.specs.declared.Rewrite.TheVariants.{Refused}
 use Rattle.passes.proofs.Done.{check_good, bytes_shorter, pass_few}
 use Rattle.release.specs.Frames.{Image, frame}
 use Rattle.release.specs.Release.{outcome, back_as, handed_back, numbers_as}
@@ -31,6 +28,8 @@ use Rattle.release.specs.Claim.{NeverFive}
 use Rattle.release.specs.Steps.{Small}
 use Rattle.release.proofs.Frames.{Byte, byte-all}
 use Rattle.release.proofs.Numbers.{Fit, check_fit}
+use Rattle.std.specs.Prelude.{Ok, Err}
+use Rattle.cells.specs.Checked.{Checked}
 
 -- ---- an output as long as the image is enough; of one that is longer than any image it doesn't matter what is lent
 
@@ -47,30 +46,30 @@ same_check i m h =
 -- what is handed back, by the answer of the check
 by_check : (i : Image) (u : List ℕ) (a : Checked)
     → output_as a (pass_bytes (Both Default) i) u ≡ over (back_as (answer_as a (length (pass_bytes (Both Default) i)) (pass_count (Both Default) i)) i) u
-by_check i u Good = refl
-by_check i u (RefusedBy x) = sym (over_nil u)
+by_check i u (Ok tt) = refl
+by_check i u (Err x) = sym (over_nil u)
 
 length-by_check : (i : Image) (a : Checked)
     → length_written (answer_as a (length (pass_bytes (Both Default) i)) (pass_count (Both Default) i)) ≡ length (back_as (answer_as a (length (pass_bytes (Both Default) i)) (pass_count (Both Default) i)) i)
-length-by_check i Good = refl
-length-by_check i (RefusedBy x) = refl
+length-by_check i (Ok tt) = refl
+length-by_check i (Err x) = refl
 
 shorter_by_check : (i : Image) (a : Checked) → pass_check i (length i) ≡ a
     → length (back_as (answer_as a (length (pass_bytes (Both Default) i)) (pass_count (Both Default) i)) i) ≤ min (length i) max_image
-shorter_by_check i Good e =
+shorter_by_check i (Ok tt) e =
     let g = ((check_good i (length i)).0 e).0 in
     omega (arith, bytes_shorter (Both Default) i g, g.image.short)
-shorter_by_check i (RefusedBy x) e = omega arith
+shorter_by_check i (Err x) e = omega arith
 
 small_by_check : (i : Image) (a : Checked) → pass_check i (length i) ≡ a → Fit a → Small (numbers_as (answer_as a (length (pass_bytes (Both Default) i)) (pass_count (Both Default) i)))
-small_by_check i Good e f =
+small_by_check i (Ok tt) e f =
     let g = ((check_good i (length i)).0 e).0 in
     record { number = omega arith; position = omega (arith, pass_few Default i, g.image.short); detail = omega arith }
-small_by_check i (RefusedBy x) e f = f.small
+small_by_check i (Err x) e f = f.small
 
-five_by_check : (a : Checked) (n count : ℕ) → Fit a → answer_as a n count ≡ Refused OutputTooShort → ⊥
-five_by_check Good n count f e = let z : ◌≡◌ {A = ℕ} 0 1 = cc in absurd (omega arith)
-five_by_check (RefusedBy x) n count f e =
+five_by_check : (a : Checked) (n count : ℕ) → Fit a → answer_as a n count ≡ Err OutputTooShort → ⊥
+five_by_check (Ok tt) n count f e = let z : ◌≡◌ {A = ℕ} 0 1 = cc in absurd (omega arith)
+five_by_check (Err x) n count f e =
     let y : x ≡ OutputTooShort = cc in
     true≢false (sym (ap (λ (z : Refusal). eqb (numbers_of z).number 5) y) ∙ f.other)
 

@@ -3,7 +3,6 @@ use mathlib.Core.Path.{◌≡◌, refl, sym, ◌∙◌, ap, ap₂}
 use mathlib.Core.Logic.{◌↔◌}
 use mathlib.Core.List.{List, [], ◌∷◌, ◌++◌, map}
 use mathlib.Core.Bool.{Bool, true, cond, true≢false}
-use mathlib.Core.Option.{Option, none, some}
 use Prim.Native.Nat.{ℕ, zero, suc, ◌+◌, ◌*◌, ◌≤◌, ◌<◌, min}
 use native.Mathlib.Omega.{arith}
 use borrow.Author.Tests.{leb-true}
@@ -17,16 +16,16 @@ use Rattle.cells.proofs.Over.{over-take}
 use Rattle.crystalfold.specs.declared.rules.RuleSet.TheVariants.{Default}
 use Rattle.passes.specs.Promises.{RewriteDone, length_written as length_alone}
 use Rattle.passes.specs.declared.Pass.TheVariants.{Both}
-use Rattle.passes.specs.declared.Rewrite.{Rewrite}
 use Rattle.passes.proofs.Done.{pass_done, rewrite_done}
 use Rattle.release.specs.Frames.{Image, frame, framed, images_of}
 use Rattle.release.specs.Release.{handed_back, numbers_as, three_numbers, answer_to, released, answers_to, with_room, admitted, answer_as, buffer_as, release_answer, release_output, release_answers}
 use Rattle.release.specs.Promises.{reply_of, is_written, length_written, Admissible, answer_alone, output_alone, AsAlone, HandedBack, ReleaseDone}
 use Rattle.release.specs.Claim.{NeighboursStay, ReleasesJoin}
-use Rattle.release.specs.declared.Released.{Released}
 use Rattle.release.proofs.Alone.{back_length, back_shorter, same_answer, same-output}
 use Rattle.release.proofs.Frames.{Byte, framed-bytes, read_back}
 use Rattle.release.proofs.Images.{framed-append, released-append, answers_append, are_admitted}
+use Rattle.std.specs.Prelude.{Option, None, Some}
+use Rattle.passes.specs.Rewrite.{Rewrite}
 
 -- ---- one image, as alone
 
@@ -82,42 +81,42 @@ handed is out answers = record {
 
 -- ---- what is admitted
 
-no_none : {A : Type 0} {is : List Image} → none ≡ some is → A
+no_none : {A : Type 0} {is : List Image} → None ≡ Some is → A
 no_none e = let z : ◌≡◌ {A = ℕ} 0 1 = cc in absurd (omega arith)
 
 -- which images these are, and that there is room for them
 record Admitted (s : List ℕ) (m k : ℕ) (is : List Image) : Type 0 where
-  read : images_of s ≡ some is
+  read : images_of s ≡ Some is
   room : length s ≤ m
   numbers : 12 * length is ≤ k
 
-with_room_lem : (k : ℕ) (o : Option (List Image)) (is : List Image) → with_room k o ≡ some is → (o ≡ some is) × (12 * length is ≤ k)
-with_room_lem k none is e = no_none e
-with_room_lem k (some js) is e =
+with_room_lem : (k : ℕ) (o : Option (List Image)) (is : List Image) → with_room k o ≡ Some is → (o ≡ Some is) × (12 * length is ≤ k)
+with_room_lem k None is e = no_none e
+with_room_lem k (Some js) is e =
     by_test (leb (12 * length js) k)
-    (λ t. let f : some js ≡ some is = sym (ap (λ (b : Bool). cond b (some js) none) t) ∙ e in
+    (λ t. let f : Some js ≡ Some is = sym (ap (λ (b : Bool). cond b (Some js) None) t) ∙ e in
     let j : js ≡ is = cc in
     (f, omega (arith, leb-true (12 * length js) k t, ap length j)))
-    (λ t. no_none (sym (ap (λ (b : Bool). cond b (some js) none) t) ∙ e))
+    (λ t. no_none (sym (ap (λ (b : Bool). cond b (Some js) None) t) ∙ e))
 
-are_images : (s : List ℕ) (m k : ℕ) (is : List Image) → admitted s m k ≡ some is → Admitted s m k is
+are_images : (s : List ℕ) (m k : ℕ) (is : List Image) → admitted s m k ≡ Some is → Admitted s m k is
 unfolding admitted
 are_images s m k is e =
     by_test (leb (length s) m)
-    (λ t. let (r, n) = with_room_lem k (images_of s) is (sym (ap (λ (b : Bool). cond b (with_room k (images_of s)) none) t) ∙ e) in
+    (λ t. let (r, n) = with_room_lem k (images_of s) is (sym (ap (λ (b : Bool). cond b (with_room k (images_of s)) None) t) ∙ e) in
     record { read = r; room = leb-true (length s) m t; numbers = n })
-    (λ t. no_none (sym (ap (λ (b : Bool). cond b (with_room k (images_of s)) none) t) ∙ e))
+    (λ t. no_none (sym (ap (λ (b : Bool). cond b (with_room k (images_of s)) None) t) ∙ e))
 
 -- ---- the promises
 
-record Facts (s out out' answers answers' : List ℕ) (r : Released) : Type 0 where
+record Facts (s out out' answers answers' : List ℕ) (r : Option ℕ) : Type 0 where
   accepted : (is_written r ≡ true) ↔ Admissible s (length out) (length answers)
   shorter : length_written r ≤ length s
   images : is_written r ≡ true → (is : List Image) → s ≡ framed is → HandedBack is (take (length_written r) out') answers'
 
 facts : (s out answers : List ℕ) → Byte s → (o : Option (List Image)) → admitted s (length out) (length answers) ≡ o
     → Facts s out (buffer_as o released out) answers (buffer_as o answers_to answers) (answer_as o)
-facts s out answers b none e = record {
+facts s out answers b None e = record {
   accepted = (
     (λ f. absurd (true≢false (sym f))),
     (λ a. no_none (sym e ∙ are_admitted s a.images (length out) (length answers) (ap images_of a.framing ∙ read_back a.images) a.room a.answers)),
@@ -125,19 +124,19 @@ facts s out answers b none e = record {
   shorter = omega arith;
   images = λ f. absurd (true≢false (sym f));
 }
-facts s out answers b (some js) e =
+facts s out answers b (Some js) e =
     let a = are_images s (length out) (length answers) js e in
     let f : s ≡ framed js = framed-bytes s js b a.read in
     record {
       accepted = ((λ _. record { images = js; framing = f; room = a.room; answers = a.numbers }), (λ _. refl));
       shorter = omega (arith, released_shorter js, ap length f);
       images = λ _ is g.
-          let r : some js ≡ some is = sym a.read ∙ ap images_of g ∙ read_back is in
+          let r : Some js ≡ Some is = sym a.read ∙ ap images_of g ∙ read_back is in
           let j : js ≡ is = cc in
           rw j (handed is out answers);
     }
 
-pub release_done : (s out out' answers answers' : List ℕ) (r : Released) → Byte s
+pub release_done : (s out out' answers answers' : List ℕ) (r : Option ℕ) → Byte s
     → (r ≡ release_answer s (length out) (length answers)) × (out' ≡ release_output s out (length answers)) × (answers' ≡ release_answers s (length out) answers)
     → ReleaseDone s out out' answers answers' r
 unfolding release_answer release_output release_answers

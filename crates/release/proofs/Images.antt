@@ -2,7 +2,6 @@
 use mathlib.Core.Path.{◌≡◌, refl, sym, ◌∙◌, ap}
 use mathlib.Core.List.{List, [], ◌∷◌, ◌++◌, append_assoc, append-nil}
 use mathlib.Core.Bool.{Bool, true, false, cond}
-use mathlib.Core.Option.{Option, none, some}
 use Prim.Native.Nat.{ℕ, ◌+◌, ◌-◌, ◌*◌, ◌≤◌, ◌<◌}
 use native.Mathlib.Omega.{arith}
 use borrow.Author.Tests.{le-leb, lt-leb}
@@ -15,10 +14,9 @@ use Rattle.cells.proofs.Over.{length_over, over-part, over_nil}
 use Rattle.release.specs.Frames.{Image, frame, framed, images_of, count_as}
 use Rattle.release.specs.Release.{handed_back, answer_to, released, answers_to, with_room, admitted, answer_as, buffer_as, release_answer, release_output, release_answers}
 use Rattle.release.specs.Steps.{Place, Placed, Ready}
-use Rattle.release.specs.declared.Framing.TheVariants.{PastEnd, Images}
-use Rattle.release.specs.declared.Released.TheVariants.{Written, Refused}
 use Rattle.release.proofs.Alone.{back_shorter}
 use Rattle.release.proofs.Frames.{image_at, Next, next-whole, none_left}
+use Rattle.std.specs.Prelude.{Some, None, Option}
 
 -- ---- what is written of images one behind the other
 
@@ -41,48 +39,48 @@ answers_length (i ∷ is) = omega (arith, answers_length is)
 
 -- ---- which images are rewritten
 
-pub are_admitted : (s : List ℕ) (is : List Image) (m k : ℕ) → images_of s ≡ some is → length s ≤ m → 12 * length is ≤ k → admitted s m k ≡ some is
+pub are_admitted : (s : List ℕ) (is : List Image) (m k : ℕ) → images_of s ≡ Some is → length s ≤ m → 12 * length is ≤ k → admitted s m k ≡ Some is
 unfolding admitted
 are_admitted s is m k e h l = rw (le-leb (length s) m h, e, le-leb (12 * length is) k l) refl
 
-pub too_short : (s : List ℕ) (m k : ℕ) → m < length s → admitted s m k ≡ none
+pub too_short : (s : List ℕ) (m k : ℕ) → m < length s → admitted s m k ≡ None
 unfolding admitted
 too_short s m k h = rw (lt-leb (length s) m h) refl
 
-by_length : (t : Bool) (o : Option (List Image)) → o ≡ none → cond t o none ≡ none
+by_length : (t : Bool) (o : Option (List Image)) → o ≡ None → cond t o None ≡ None
 by_length true o e = e
 by_length false o e = refl
 
-pub past_end_none : (s : List ℕ) (m k : ℕ) → images_of s ≡ none → admitted s m k ≡ none
+pub past_end_none : (s : List ℕ) (m k : ℕ) → images_of s ≡ None → admitted s m k ≡ None
 unfolding admitted
 past_end_none s m k e = by_length (leb (length s) m) (with_room k (images_of s)) (ap (with_room k) e)
 
-pub few_numbers : (s : List ℕ) (is : List Image) (m k : ℕ) → images_of s ≡ some is → k < 12 * length is → admitted s m k ≡ none
+pub few_numbers : (s : List ℕ) (is : List Image) (m k : ℕ) → images_of s ≡ Some is → k < 12 * length is → admitted s m k ≡ None
 unfolding admitted
 few_numbers s is m k e h =
-    by_length (leb (length s) m) (with_room k (images_of s)) (ap (with_room k) e ∙ ap (λ (t : Bool). cond t (some is) none) (lt-leb (12 * length is) k h))
+    by_length (leb (length s) m) (with_room k (images_of s)) (ap (with_room k) e ∙ ap (λ (t : Bool). cond t (Some is) None) (lt-leb (12 * length is) k h))
 
 -- the count tells whether there are images
 abbrev pub CountedImages : List ℕ → ℕ → Type 0
-CountedImages s n = (is : List Image) × (images_of s ≡ some is) × (length is ≡ n)
+CountedImages s n = (is : List Image) × (images_of s ≡ Some is) × (length is ≡ n)
 
-pub no_images : (o : Option (List Image)) → count_as o ≡ PastEnd → o ≡ none
-no_images none e = refl
-no_images (some is) e = let z : ◌≡◌ {A = ℕ} 0 1 = cc in absurd (omega arith)
+pub no_images : (o : Option (List Image)) → count_as o ≡ None → o ≡ None
+no_images None e = refl
+no_images (Some is) e = let z : ◌≡◌ {A = ℕ} 0 1 = cc in absurd (omega arith)
 
-pub some_images : (o : Option (List Image)) (n : ℕ) → count_as o ≡ Images n → (is : List Image) × (o ≡ some is) × (length is ≡ n)
-some_images none n e = let z : ◌≡◌ {A = ℕ} 0 1 = cc in absurd (omega arith)
-some_images (some is) n e = (is, refl, cc)
+pub some_images : (o : Option (List Image)) (n : ℕ) → count_as o ≡ Some n → (is : List Image) × (o ≡ Some is) × (length is ≡ n)
+some_images None n e = let z : ◌≡◌ {A = ℕ} 0 1 = cc in absurd (omega arith)
+some_images (Some is) n e = (is, refl, cc)
 
 -- the whole operation, by these
-pub refused_so : (s out answers : List ℕ) → admitted s (length out) (length answers) ≡ none
-    → (Refused ≡ release_answer s (length out) (length answers)) × (out ≡ release_output s out (length answers)) × (answers ≡ release_answers s (length out) answers)
+pub refused_so : (s out answers : List ℕ) → admitted s (length out) (length answers) ≡ None
+    → (None ≡ release_answer s (length out) (length answers)) × (out ≡ release_output s out (length answers)) × (answers ≡ release_answers s (length out) answers)
 unfolding release_answer release_output release_answers
 refused_so s out answers e =
     (sym (ap answer_as e), sym (ap (λ (o : Option (List Image)). buffer_as o released out) e), sym (ap (λ (o : Option (List Image)). buffer_as o answers_to answers) e))
 
-pub written_so : (s out answers : List ℕ) (is : List Image) → admitted s (length out) (length answers) ≡ some is
-    → (Written (length (released is)) ≡ release_answer s (length out) (length answers)) × (over (released is) out ≡ release_output s out (length answers))
+pub written_so : (s out answers : List ℕ) (is : List Image) → admitted s (length out) (length answers) ≡ Some is
+    → (Some (length (released is)) ≡ release_answer s (length out) (length answers)) × (over (released is) out ≡ release_output s out (length answers))
     × (over (answers_to is) answers ≡ release_answers s (length out) answers)
 unfolding release_answer release_output release_answers
 written_so s out answers is e =
@@ -94,8 +92,8 @@ written_so s out answers is e =
 pub record Rewriting (s out₀ answers₀ out answers : List ℕ) (at to k : ℕ) : Type 0 where
   pub done : List Image
   pub rest : List Image
-  pub whole : images_of s ≡ some (done ++ rest)
-  pub left : images_of (drop at s) ≡ some rest
+  pub whole : images_of s ≡ Some (done ++ rest)
+  pub left : images_of (drop at s) ≡ Some rest
   pub within : at ≤ length s
   pub bytes : out ≡ over (released done) out₀
   pub numbers : answers ≡ over (answers_to done) answers₀
@@ -189,7 +187,7 @@ module _ {s out₀ answers₀ out answers : List ℕ} {at to k : ℕ} (w : Rewri
             record {
               done = w.done ++ i ∷ [];
               rest = following.others;
-              whole = w.whole ∙ ap (λ (x : List Image). some (w.done ++ x)) following.are ∙ ap some (sym (append_assoc w.done (i ∷ []) following.others));
+              whole = w.whole ∙ ap (λ (x : List Image). Some (w.done ++ x)) following.are ∙ ap Some (sym (append_assoc w.done (i ∷ []) following.others));
               left = ap (λ (x : ℕ). images_of (drop x s)) a ∙ following.read;
               within = omega (arith, following.within, a);
               bytes = out_next;
@@ -205,11 +203,11 @@ module _ {s out₀ answers₀ out answers : List ℕ} {at to k : ℕ} (w : Rewri
 
   -- at the end all are done
   pub rewriting_end : length s ≤ at
-      → (Written to ≡ release_answer s (length out₀) (length answers₀)) × (out ≡ release_output s out₀ (length answers₀)) × (answers ≡ release_answers s (length out₀) answers₀)
+      → (Some to ≡ release_answer s (length out₀) (length answers₀)) × (out ≡ release_output s out₀ (length answers₀)) × (answers ≡ release_answers s (length out₀) answers₀)
   rewriting_end h =
       let n : w.rest ≡ [] = none_left s at w.rest h w.left in
-      let e : images_of s ≡ some w.done = w.whole ∙ ap (λ (x : List Image). some (w.done ++ x)) n ∙ ap some (append-nil w.done) in
-      let a : admitted s (length out₀) (length answers₀) ≡ some w.done
+      let e : images_of s ≡ Some w.done = w.whole ∙ ap (λ (x : List Image). Some (w.done ++ x)) n ∙ ap Some (append-nil w.done) in
+      let a : admitted s (length out₀) (length answers₀) ≡ Some w.done
       = are_admitted s w.done (length out₀) (length answers₀) e w.room (omega (arith, w.enough, w.answered, answers_length w.done)) in
       let (x, y, z) = written_so s out₀ answers₀ w.done a in
-      (ap Written w.written ∙ x, w.bytes ∙ y, w.numbers ∙ z)
+      (ap Some w.written ∙ x, w.bytes ∙ y, w.numbers ∙ z)

@@ -17,8 +17,6 @@ use Rattle.cells.specs.Refusals.{numbered, numbers_of}
 use Rattle.cells.specs.Table.{event_row, head_row}
 use Rattle.cells.specs.declared.refusal.Numbers.{Numbers}
 use Rattle.cells.specs.declared.refusal.Refusal.TheVariants.{Length, OutputTooShort}
-use Rattle.cells.specs.declared.refusal.Checked.{Checked}
-use Rattle.cells.specs.declared.refusal.Checked.TheVariants.{Good, Refused}
 use Rattle.cells.specs.declared.walk.Part.{Part}
 use Rattle.cells.specs.declared.walk.Part.TheVariants.{Code, Events}
 use Rattle.cells.proofs.Cells.{length-cells}
@@ -30,8 +28,6 @@ use Rattle.sites.specs.Validators.{judge_site, judge_command, repeat_answer, jud
 use Rattle.sites.specs.AllSites.{sites_answer}
 use Rattle.sites.specs.declared.Rule.{Rule}
 use Rattle.sites.specs.declared.Rule.TheVariants.{StoreVarClaimed, BorrowKnown, EventKind, WriteClaimed, WriteKnown}
-use Rattle.sites.specs.declared.Site.{Site}
-use Rattle.sites.specs.declared.Site.TheVariants.{Absent, At}
 use Rattle.sites.specs.declared.Which.{Which}
 use Rattle.sites.specs.declared.Which.TheVariants.{Activation, Write}
 use Rattle.image.specs.Image.{good_length, image_answer, cell_check, cells_answer, function_answer, functions_answer}
@@ -39,6 +35,8 @@ use Rattle.image.specs.SiteCheck.{site_answer}
 use Rattle.passes.specs.Passes.{pass_check}
 use Rattle.release.specs.Steps.{Small}
 use Rattle.release.proofs.Frames.{Byte, byte-drop}
+use Rattle.std.specs.Prelude.{Option, Some, None, Ok, Err}
+use Rattle.cells.specs.Checked.{Checked}
 
 -- ---- an answer whose numbers are small, where it refuses, and which is another refusal than 5
 
@@ -47,12 +45,12 @@ pub record Fine (x : Numbers) : Type 0 where
   pub other : eqb x.number 5 ≡ false
 
 abbrev pub Fit : Checked → Type 0
-Fit Good = Unit {0}
-Fit (Refused x) = Fine (numbers_of x)
+Fit (Ok tt) = Unit {0}
+Fit (Err x) = Fine (numbers_of x)
 
 or_fit : (a b : Checked) → Fit a → Fit b → Fit (or_else a b)
-or_fit Good b p q = q
-or_fit (Refused x) b p q = p
+or_fit (Ok tt) b p q = q
+or_fit (Err x) b p q = p
 
 test_fit : (t : Bool) (a b : Checked) → Fit a → Fit b → Fit (cond t a b)
 test_fit true a b p q = p
@@ -71,25 +69,25 @@ fine n p d h e k l = record { small = record { number = h; position = k; detail 
 
 -- ---- sites
 
-abbrev Sited : Site → Type 0
-Sited Absent = Unit {0}
-Sited (At x) = Under x
+abbrev Sited : Option ℕ → Type 0
+Sited None = Unit {0}
+Sited (Some x) = Under x
 
-test_sited : (t : Bool) (a b : Site) → Sited a → Sited b → Sited (cond t a b)
+test_sited : (t : Bool) (a b : Option ℕ) → Sited a → Sited b → Sited (cond t a b)
 test_sited true a b p q = p
 test_sited false a b p q = q
 
 site_at_lem : (c : Cell) (at : ℕ) → Byte c → Sited (site_at c at)
 site_at_lem c at f =
-    test_sited (eqb (byte c at) 1) (At (word c (at + 1))) Absent
+    test_sited (eqb (byte c at) 1) (Some (word c (at + 1))) None
     (omega (arith, f (at + 1), f (at + 1 + 1), f (at + 1 + 2), f (at + 1 + 2 + 1))) tt
 
 site_of_lem : (w : Which) (c : Cell) → Byte c → Sited (site_of w c)
 unfolding site_of
-site_of_lem Activation c f = test_sited (is_store_var c) (site_at c 5) Absent (site_at_lem c 5 f) tt
+site_of_lem Activation c f = test_sited (is_store_var c) (site_at c 5) None (site_at_lem c 5 f) tt
 site_of_lem Write c f =
-    test_sited (is_store_var c) (site_at c 10) (cond (is_make_record c) (site_at c 7) Absent) (site_at_lem c 10 f)
-    (test_sited (is_make_record c) (site_at c 7) Absent (site_at_lem c 7 f) tt)
+    test_sited (is_store_var c) (site_at c 10) (cond (is_make_record c) (site_at c 7) None) (site_at_lem c 10 f)
+    (test_sited (is_make_record c) (site_at c 7) None (site_at_lem c 7 f) tt)
 
 event_site_lem : (w : Which) (c : Cell) → Byte c → Sited (event_site w c)
 unfolding event_site
@@ -104,30 +102,30 @@ site-by Events w c f = event_site_lem w c f
 -- ---- the validators of the function at a position
 
 module _ (position : ℕ) (p : Under position) where
-  judged-site : (w : Which) (before : List Cell) (x : Site) → Sited x → Fit (judge_site w position before x)
-  judged-site w before Absent s = tt
-  judged-site Activation before (At x) s = test_fit (stands (site_of Activation) x before) _ Good (fine 11 position x (omega arith) refl p s) tt
-  judged-site Write before (At x) s = test_fit (stands (site_of Write) x before) _ Good (fine 21 position x (omega arith) refl p s) tt
+  judged-site : (w : Which) (before : List Cell) (x : Option ℕ) → Sited x → Fit (judge_site w position before x)
+  judged-site w before None s = tt
+  judged-site Activation before (Some x) s = test_fit (stands (site_of Activation) x before) _ (Ok tt) (fine 11 position x (omega arith) refl p s) tt
+  judged-site Write before (Some x) s = test_fit (stands (site_of Write) x before) _ (Ok tt) (fine 21 position x (omega arith) refl p s) tt
 
-  judged_activation : (before : List Cell) (write : Bool) (x : Site) → Sited x → Fit (judge_activation position before write x)
-  judged_activation before write Absent s = tt
-  judged_activation before true (At x) s = fine 12 position x (omega arith) refl p s
-  judged_activation before false (At x) s = test_fit (stands (event_site Activation) x before) _ Good (fine 13 position x (omega arith) refl p s) tt
+  judged_activation : (before : List Cell) (write : Bool) (x : Option ℕ) → Sited x → Fit (judge_activation position before write x)
+  judged_activation before write None s = tt
+  judged_activation before true (Some x) s = fine 12 position x (omega arith) refl p s
+  judged_activation before false (Some x) s = test_fit (stands (event_site Activation) x before) _ (Ok tt) (fine 13 position x (omega arith) refl p s) tt
 
-  judged_met : (w : Which) (count : ℕ → ℕ) (x : Site) → Sited x → Fit (judge_met w position count x)
-  judged_met w count Absent s = tt
-  judged_met Activation count (At x) s = test_fit (eqb (count x) 0) _ Good (fine 14 position 0 (omega arith) refl p (omega arith)) tt
-  judged_met Write count (At x) s = test_fit (eqb (count x) 0) _ Good (fine 26 position x (omega arith) refl p s) tt
+  judged_met : (w : Which) (count : ℕ → ℕ) (x : Option ℕ) → Sited x → Fit (judge_met w position count x)
+  judged_met w count None s = tt
+  judged_met Activation count (Some x) s = test_fit (eqb (count x) 0) _ (Ok tt) (fine 14 position 0 (omega arith) refl p (omega arith)) tt
+  judged_met Write count (Some x) s = test_fit (eqb (count x) 0) _ (Ok tt) (fine 26 position x (omega arith) refl p s) tt
 
-  judged_kind : (write : Bool) (x : Site) → Sited x → Fit (judge_kind position write x)
-  judged_kind write Absent s = test_fit write _ Good (fine 23 position 0 (omega arith) refl p (omega arith)) tt
-  judged_kind write (At x) s = test_fit write Good _ tt (fine 22 position x (omega arith) refl p s)
+  judged_kind : (write : Bool) (x : Option ℕ) → Sited x → Fit (judge_kind position write x)
+  judged_kind write None s = test_fit write _ (Ok tt) (fine 23 position 0 (omega arith) refl p (omega arith)) tt
+  judged_kind write (Some x) s = test_fit write (Ok tt) _ tt (fine 22 position x (omega arith) refl p s)
 
-  judged_claim : (count : ℕ → ℕ) (store : Bool) (x : Site) → Sited x → Fit (judge_claim position count store x)
-  judged_claim count store Absent s = tt
-  judged_claim count store (At x) s =
+  judged_claim : (count : ℕ → ℕ) (store : Bool) (x : Option ℕ) → Sited x → Fit (judge_claim position count store x)
+  judged_claim count store None s = tt
+  judged_claim count store (Some x) s =
       test_fit (eqb (count x) 0) _ _ (fine 24 position x (omega arith) refl p s)
-      (test_fit (store && not (eqb (count x) 1)) _ Good (fine 25 position x (omega arith) refl p s) tt)
+      (test_fit (store && not (eqb (count x) 1)) _ (Ok tt) (fine 25 position x (omega arith) refl p s) tt)
 
   judged-by : (rule : Rule) (count : ℕ → ℕ) (c : Cell) → Byte c → Fit (judge_by rule position count c)
   unfolding judge_by
@@ -167,14 +165,14 @@ module _ (position : ℕ) (p : Under position) where
     cell_fit : (part : Part) (c : Cell) → Fit (cell_check part position d c)
     unfolding instruction_check event_check
     cell_fit Code c =
-        test_fit (is_command c) _ _ (test_fit (row_ok (byte c 0) c) Good _ tt (fine 4 position d (omega arith) refl p l)) (fine 3 position d (omega arith) refl p l)
+        test_fit (is_command c) _ _ (test_fit (row_ok (byte c 0) c) (Ok tt) _ tt (fine 4 position d (omega arith) refl p l)) (fine 3 position d (omega arith) refl p l)
     cell_fit Events c =
-        test_fit (is_event_kind c) _ _ (test_fit (row_ok event_row c) Good _ tt (fine 4 position d (omega arith) refl p l)) (fine 3 position d (omega arith) refl p l)
+        test_fit (is_event_kind c) _ _ (test_fit (row_ok event_row c) (Ok tt) _ tt (fine 4 position d (omega arith) refl p l)) (fine 3 position d (omega arith) refl p l)
 
     head_fit : (after : ℕ) (c : Cell) → Fit (head_check position d after c)
     unfolding head_check
     head_fit after c =
-        test_fit (is_head after c) _ _ (test_fit (row_ok head_row c) Good _ tt (fine 4 position d (omega arith) refl p l)) (fine 2 position d (omega arith) refl p l)
+        test_fit (is_head after c) _ _ (test_fit (row_ok head_row c) (Ok tt) _ tt (fine 4 position d (omega arith) refl p l)) (fine 2 position d (omega arith) refl p l)
 
   cells_fit : (part : Part) (d : ℕ) (cs : List Cell) → d + length cs < 4294967296 → Fit (cells_answer part position d cs)
   cells_fit part d [] l = tt
@@ -230,7 +228,7 @@ check_fit s f =
     let b : All Byte (cells_of_all fs) = rw (cells_of_functions (cells s)) (chunks-byte (length s / 16) s f) in
     test_fit (good_length s) _ _
     (or_fit (unless (leb (length s) (length s)) OutputTooShort) _ (rw (le-leb (length s) (length s) (omega arith)) tt)
-    (or_fit (cond (good_length s) (functions_answer 0 0 fs) (Refused Length)) _
+    (or_fit (cond (good_length s) (functions_answer 0 0 fs) (Err Length)) _
     (test_fit (good_length s) _ _ (functions_fit 0 0 fs (omega (arith, functions_few fs, c)) (omega (arith, c))) long)
     (all_sites_fit 0 fs (omega (arith, functions_few fs, c)) b)))
     long)

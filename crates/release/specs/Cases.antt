@@ -1,7 +1,6 @@
 -- Worked: releases written out by hand from document 02 (W9): which images bytes hold; and the operation with every byte of both buffers, exact,
 -- longer and too short, with refused images among others, and refused.
-use Rattle.std.specs.Prelude.{◌≡◌, refl, List, [], ◌∷◌, ◌++◌, map, ℕ, length, replicate}
-use Rattle.std.proofs.Math.Option.{Option, none, some}
+use Rattle.std.specs.Prelude.{◌≡◌, refl, List, [], ◌∷◌, ◌++◌, map, ℕ, length, replicate, Option, None, Some}
 use Rattle.leaves.specs.Signed.{wrap, add_i32}
 use Rattle.cells.specs.Assembler.{cell, Head, Label, LoadI32, LoadBool, LoadQ, AddI32, QTruthNot, Ret, RetNothing, site, no_site, StoreVarSited, MakeRecord, Borrow, Write, function}
 use Rattle.cells.specs.Cells.{over}
@@ -34,10 +33,10 @@ pub record FramesCase : Type 0 where
   pub images : Option (List Image)
 
 abbrev pub holds : List ℕ → List Image → FramesCase
-holds s is = record { bytes = s; images = some is }
+holds s is = record { bytes = s; images = Some is }
 
 abbrev pub holds_none : List ℕ → FramesCase
-holds_none s = record { bytes = s; images = none }
+holds_none s = record { bytes = s; images = None }
 
 abbrev pub frames : List FramesCase
 frames =

@@ -1,7 +1,7 @@
 -- Promise: what `rewrite_release` promises (document 02, W9): s is the release, `out` and `out'` are what the lent output holds at entry and at exit,
 -- `answers` and `answers'` the same of the buffer for the answers, and r is the answer. `answer`, `bytes` and `numbers` say everything outright; the
 -- other fields say what follows.
-use Rattle.std.specs.Prelude.{ℕ, ◌*◌, ◌≤◌, ◌<◌, ◌≡◌, ◌↔◌, Bool, true, false, List, [], length, take, drop, get_or}
+use Rattle.std.specs.Prelude.{ℕ, ◌*◌, ◌≤◌, ◌<◌, ◌≡◌, ◌↔◌, Bool, true, false, List, [], length, take, drop, get_or, Option, Some, None}
 use Rattle.cells.specs.Cells.{cells}
 use Rattle.cells.specs.Functions.{functions}
 use Rattle.cells.specs.Refusals.{numbered}
@@ -12,28 +12,26 @@ use Rattle.rewrite.specs.Claim.{Rewritten}
 use Rattle.passes.specs.Promises.{Each, RewriteDone, is_written as is_written_alone, length_written as length_alone}
 use Rattle.passes.specs.Passes.{pass_answer, pass_output}
 use Rattle.passes.specs.declared.Pass.TheVariants.{Both}
-use Rattle.passes.specs.declared.Rewrite.{Rewrite}
 use Rattle.release.specs.Frames.{Image, framed}
 use Rattle.release.specs.Release.{numbers_as, three_numbers, release_answer, release_output, release_answers}
-use Rattle.release.specs.declared.Released.{Released}
-use Rattle.release.specs.declared.Released.TheVariants.{Written, Refused}
+use Rattle.passes.specs.Rewrite.{Rewrite}
 
 -- an answer as the document sets it out: the length written to the output; or number, position and detail. 33 has neither position nor detail
 pub data Reply : Type 0 where
   success : ℕ → Reply
   refusal : Numbers → Reply
 
-abbrev pub reply_of : Released → Reply
-reply_of (Written n) = success n
-reply_of Refused = refusal (numbered 33 0 0)
+abbrev pub reply_of : Option ℕ → Reply
+reply_of (Some n) = success n
+reply_of None = refusal (numbered 33 0 0)
 
-abbrev pub is_written : Released → Bool
-is_written (Written n) = true
-is_written Refused = false
+abbrev pub is_written : Option ℕ → Bool
+is_written (Some n) = true
+is_written None = false
 
-abbrev pub length_written : Released → ℕ
-length_written (Written n) = n
-length_written Refused = 0
+abbrev pub length_written : Option ℕ → ℕ
+length_written (Some n) = n
+length_written None = 0
 
 -- s is images behind their lengths, up to its end; the output, of m bytes, is as long as s, and the other buffer has 12 bytes an image among its k
 pub record Admissible (s : List ℕ) (m k : ℕ) : Type 0 where
@@ -69,7 +67,7 @@ pub record HandedBack (is : List Image) (written answers : List ℕ) : Type 0 wh
   pub each : (k : ℕ) → k < length is → (lent : List ℕ) → length (get_or is k []) ≤ length lent
       → AsAlone (get_or is k []) (get_or backs k []) (take 12 (drop (12 * k) answers)) lent
 
-pub record ReleaseDone (s out out' answers answers' : List ℕ) (r : Released) : Type 0 where
+pub record ReleaseDone (s out out' answers answers' : List ℕ) (r : Option ℕ) : Type 0 where
   -- the answer, and the same by the document's numbers
   pub answer : r ≡ release_answer s (length out) (length answers)
   pub reply : reply_of r ≡ reply_of (release_answer s (length out) (length answers))

@@ -1,6 +1,5 @@
 -- Inner: what the inner functions say: one image in its place, and all of them.
-use Rattle.std.specs.Prelude.{ℕ, ◌+◌, ◌*◌, ◌≤◌, ◌<◌, min, ◌≡◌, List, length}
-use Rattle.std.proofs.Math.Option.{some}
+use Rattle.std.specs.Prelude.{ℕ, ◌+◌, ◌*◌, ◌≤◌, ◌<◌, min, ◌≡◌, List, length, Some}
 use Rattle.cells.specs.Cells.{over}
 use Rattle.cells.specs.Check.{max_image}
 use Rattle.cells.specs.declared.refusal.Numbers.{Numbers}
@@ -26,6 +25,6 @@ pub record Placed (i out out' answer answer' : List ℕ) (r : ℕ) : Type 0 wher
 -- all images have their places
 pub record Ready (s out answers : List ℕ) : Type 0 where
   pub images : List Image
-  pub read : images_of s ≡ some images
+  pub read : images_of s ≡ Some images
   pub room : length s ≤ length out
   pub numbers : 12 * length images ≤ length answers

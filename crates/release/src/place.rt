@@ -6,9 +6,8 @@ ghost use Rattle.passes.specs.Promises.{length_written};
 ghost use Rattle.release.specs.Release.{numbers_as, three_numbers};
 ghost use Rattle.release.specs.Steps.{Small, Place, Placed};
 
-use cells::read;
-use cells::refusal::{Numbers, numbers_of};
-use passes::Rewrite;
+use cells::refusal::{Numbers, Refusal};
+use passes::Written;
 
 // Bytes of a length and of each number of an answer.
 pub const NUMBER: usize = 4;
@@ -21,8 +20,7 @@ pub fn rewrite_image(image: &[u8], out: &mut [u8], answer: &mut [u8]) -> usize
     requires { Place image.now out.old answer.old }
     ensures { Placed image.now out.old out.new answer.old answer.new result }
 {
-    let start = NUMBER;
-    let reply = passes::run_default_opt_passes(image, &mut out[start..]);
+    let reply = passes::run_default_opt_passes(image, &mut out[NUMBER..]);
     let n = length_written(reply);
     put_number(n, out);
     put_numbers(numbers_as(reply), answer);
@@ -30,26 +28,26 @@ pub fn rewrite_image(image: &[u8], out: &mut [u8], answer: &mut [u8]) -> usize
 }
 
 // The length of the image that is handed back: 0 if it is refused.
-fn length_written(reply: Rewrite) -> usize
+fn length_written(reply: Result<Written, Refusal>) -> usize
     ensures { result ≡ length_written reply }
 {
     match reply {
-        Rewrite::Written(n, _) => n,
-        Rewrite::Refused(_) => 0,
+        Ok(written) => written.length,
+        Err(_) => 0,
     }
 }
 
 // 0, the count of rewrites and 0; or the refusal's number, position and detail.
-fn numbers_as(reply: Rewrite) -> Numbers
+fn numbers_as(reply: Result<Written, Refusal>) -> Numbers
     ensures { result ≡ numbers_as reply }
 {
     match reply {
-        Rewrite::Written(_, report) => Numbers {
+        Ok(written) => Numbers {
             number: 0,
-            position: report.num_rewrites,
+            position: written.report.num_rewrites,
             detail: 0,
         },
-        Rewrite::Refused(x) => numbers_of(x),
+        Err(x) => Numbers::from(x),
     }
 }
 
@@ -58,11 +56,9 @@ fn put_numbers(x: Numbers, buffer: &mut [u8])
     requires { Small x × (12 ≤ length buffer.old) }
     ensures { buffer.new ≡ over (three_numbers x) buffer.old }
 {
-    let a = NUMBER;
-    let b = 2 * NUMBER;
     put_number(x.number, buffer);
-    put_number(x.position, &mut buffer[a..]);
-    put_number(x.detail, &mut buffer[b..]);
+    put_number(x.position, &mut buffer[NUMBER..]);
+    put_number(x.detail, &mut buffer[2 * NUMBER..]);
 }
 
 // A number in 4 bytes over the start of a buffer.
@@ -70,6 +66,5 @@ fn put_number(n: usize, buffer: &mut [u8])
     requires { (n < 4294967296) × (4 ≤ length buffer.old) }
     ensures { buffer.new ≡ over (bytes_of 4 n) buffer.old }
 {
-    read::put_half(buffer, 0, n % 65536);
-    read::put_half(buffer, 2, n / 65536);
+    buffer[..NUMBER].copy_from_slice(&(n as u32).to_le_bytes());
 }

@@ -8,8 +8,6 @@ use Rattle.cells.specs.Check.{max_image}
 use Rattle.cells.specs.Cells.{cells, over}
 use Rattle.cells.specs.Functions.{functions}
 use Rattle.cells.specs.declared.refusal.Refusal.{Refusal}
-use Rattle.cells.specs.declared.refusal.Checked.{Checked}
-use Rattle.cells.specs.declared.refusal.Checked.TheVariants.{Good, Refused as RefusedBy}
 use Rattle.cells.proofs.Over.{over-take, length_over}
 use Rattle.crystalfold.specs.declared.rules.RuleSet.{RuleSet}
 use Rattle.image.specs.SiteCheck.{site_answer, SitesPass}
@@ -17,13 +15,14 @@ use Rattle.image.proofs.Good.{site-good}
 use Rattle.passes.specs.Passes.{pass_all, count_all, pass_bytes, pass_count, pass_check, answer_as, output_as, report}
 use Rattle.passes.specs.Steps.{AllWritten}
 use Rattle.passes.specs.declared.Pass.TheVariants.{Both}
-use Rattle.passes.specs.declared.Rewrite.TheVariants.{Written, Refused}
 use Rattle.passes.specs.declared.Total.{Total}
 use Rattle.passes.proofs.Done.{check_good, bytes-length, bytes_shorter, pass_few}
 use Rattle.rest.specs.Rounds.{rest_bytes, rest_count, rest_answer, rest_output}
 use Rattle.rest.specs.Promises.{RestDone}
 use Rattle.rest.proofs.Rounds.{rounds_pass, rest_bytes_lem, rest_count_lem}
 use Rattle.rest.proofs.Done.{rest_done}
+use Rattle.std.specs.Prelude.{Ok, Err}
+use Rattle.cells.specs.Checked.{Checked}
 
 -- the memory is that of one image
 one_image : (work : List ℕ) → work ≡ replicate max_image 0 → length work ≡ max_image
@@ -37,26 +36,26 @@ Wrote k s before after t = AllWritten (pass_all (Both k) (functions (cells s))) 
 pub record Second (k : RuleSet) (s before : List ℕ) (t : Total) (after : List ℕ) (u : Total) : Type 0 where
   pub most : 16 * u.cells ≤ max_image
   pub counts : t.rewrites + u.rewrites ≤ 2 * max_image
-  pub done : RestDone k s before after (Written (16 * u.cells) (report (t.rewrites + u.rewrites)))
+  pub done : RestDone k s before after (Ok (record { length = (16 * u.cells); report = (report (t.rewrites + u.rewrites)) }))
 
 -- after the first, in memory: what it wrote stands there, and the second can be made of it
 pub record First (k : RuleSet) (s before work : List ℕ) (t : Total) : Type 0 where
   pub most : 16 * t.cells ≤ max_image
   pub room : 16 * t.cells ≤ length work
-  pub ready : (site_answer (take (16 * t.cells) work) ≡ Good) × (length (take (16 * t.cells) work) ≤ length before)
+  pub ready : (site_answer (take (16 * t.cells) work) ≡ Ok tt) × (length (take (16 * t.cells) work) ≤ length before)
   pub second : (after : List ℕ) (u : Total) → Wrote k (take (16 * t.cells) work) before after u → Second k s before t after u
 
 module _ (k : RuleSet) (s before : List ℕ) {a : Checked} (e : a ≡ pass_check s (length before)) where
   -- a refusal is handed on, and nothing is written
-  pub rest-refused : {x : Refusal} → a ≡ RefusedBy x → RestDone k s before before (Refused x)
+  pub rest-refused : {x : Refusal} → a ≡ Err x → RestDone k s before before (Err x)
   unfolding rest_answer rest_output
   rest-refused {x} f =
-      let g : pass_check s (length before) ≡ RefusedBy x = sym e ∙ f in
-      rest_done k s before before (Refused x)
+      let g : pass_check s (length before) ≡ Err x = sym e ∙ f in
+      rest_done k s before before (Err x)
       (sym (ap (λ (c : Checked). answer_as c (length (rest_bytes k s)) (rest_count k s)) g))
       (sym (ap (λ (c : Checked). output_as c (rest_bytes k s) before) g))
 
-  module _ (f : a ≡ Good) where
+  module _ (f : a ≡ Ok tt) where
     passes : SitesPass s
     passes = ((check_good s (length before)).0 (sym e ∙ f)).0
 
@@ -64,7 +63,7 @@ module _ (k : RuleSet) (s before : List ℕ) {a : Checked} (e : a ≡ pass_check
     enough = ((check_good s (length before)).0 (sym e ∙ f)).1
 
     -- the first round has room in memory for one image
-    pub first_ready : (work : List ℕ) → work ≡ replicate max_image 0 → (site_answer s ≡ Good) × (length s ≤ length work)
+    pub first_ready : (work : List ℕ) → work ≡ replicate max_image 0 → (site_answer s ≡ Ok tt) × (length s ≤ length work)
     first_ready work l = ((site-good s).1 passes, omega (arith, one_image work l, passes.image.short))
 
     module _ (work work' : List ℕ) (l : work ≡ replicate max_image 0) (t : Total) (w : Wrote k s work work' t) where
@@ -108,14 +107,14 @@ module _ (k : RuleSet) (s before : List ℕ) {a : Checked} (e : a ≡ pass_check
         unfolding pass_count
         second_count = second_is.rewrites
 
-        rest-written : RestDone k s before after (Written (16 * u.cells) (report (t.rewrites + u.rewrites)))
+        rest-written : RestDone k s before after (Ok (record { length = (16 * u.cells); report = (report (t.rewrites + u.rewrites)) }))
         unfolding rest_answer rest_output s₁ pass_bytes
         rest-written =
-            let g : pass_check s (length before) ≡ Good = sym e ∙ f in
+            let g : pass_check s (length before) ≡ Ok tt = sym e ∙ f in
             let b : rest_bytes k s ≡ pass_bytes (Both k) s₁ = rest_bytes_lem k s passes in
             let c : rest_count k s ≡ t.rewrites + u.rewrites = omega (arith, rest_count_lem k s passes, first_count, second_count) in
-            rest_done k s before after (Written (16 * u.cells) (report (t.rewrites + u.rewrites)))
-            (ap₂ (λ (n m : ℕ). Written n (report m)) (second_size ∙ ap length (sym b)) (sym c) ∙ sym (ap (λ (x : Checked). answer_as x (length (rest_bytes k s)) (rest_count k s)) g))
+            rest_done k s before after (Ok (record { length = (16 * u.cells); report = (report (t.rewrites + u.rewrites)) }))
+            (ap₂ (λ (n m : ℕ). Ok (record { length = n; report = (report m) })) (second_size ∙ ap length (sym b)) (sym c) ∙ sym (ap (λ (x : Checked). answer_as x (length (rest_bytes k s)) (rest_count k s)) g))
             (second_is.bytes ∙ ap (λ (y : List ℕ). over y before) (sym b) ∙ sym (ap (λ (x : Checked). output_as x (rest_bytes k s) before) g))
 
         second_round : Second k s before t after u

@@ -10,7 +10,6 @@ use Rattle.cells.specs.Check.{code_count, event_count}
 use Rattle.cells.specs.Functions.{Function, functions, new_head, cells_of, cells_of_all}
 use Rattle.cells.specs.Lists.{All}
 use Rattle.cells.specs.WellFormed.{WellFormed}
-use Rattle.cells.specs.declared.refusal.Checked.TheVariants.{Good}
 use Rattle.cells.proofs.Cells.{flat-cells, flat_append}
 use Rattle.cells.proofs.Functions.{cells_of_functions}
 use Rattle.cells.proofs.Lists.{all_parts}
@@ -21,11 +20,11 @@ use Rattle.rewrite.specs.Rewrite.{rewrite_function, rewrite_code, rewrite_count}
 use Rattle.image.proofs.Again.{image_formed}
 use Rattle.passes.specs.Passes.{pass_bytes, pass_check, pass_answer, pass_output, report}
 use Rattle.passes.specs.declared.Pass.TheVariants.{Both}
-use Rattle.passes.specs.declared.Rewrite.TheVariants.{Written}
 use Rattle.passes.proofs.Done.{check_good}
 use Rattle.rest.specs.Promises.{ZeroAtRest}
 use Rattle.rest.proofs.Still.{Still, code_still, events_still, same-function, all, counts}
 use Rattle.rest.proofs.Rounds.{count_is, once_is}
+use Rattle.std.specs.Prelude.{Ok}
 
 abbrev Byte : ℕ → Type 0
 Byte b = b < 256
@@ -72,8 +71,8 @@ zero_at_rest k s lent b g e l =
     let i : flat (cells_of_all fs) ≡ s = ap flat (cells_of_functions (cells s)) ∙ flat-cells s g.image.even in
     let same : all (rules_of k) fs ≡ fs = all_same (rules_of k) fs (image_formed s g.image) (rw i b) (sym (count_is k s) ∙ e) in
     let y : pass_bytes (Both k) s ≡ s = once_is k s ∙ ap (λ (gs : List Function). flat (cells_of_all gs)) same ∙ i in
-    let c : pass_check s (length lent) ≡ Good = (check_good s (length lent)).1 (g, l) in
+    let c : pass_check s (length lent) ≡ Ok tt = (check_good s (length lent)).1 (g, l) in
     record {
-      answer = rw c (ap₂ (λ (n m : ℕ). Written n (report m)) (ap length y) e);
+      answer = rw c (ap₂ (λ (n m : ℕ). Ok (record { length = n; report = (report m) })) (ap length y) e);
       bytes = rw c (ap (λ (z : List ℕ). over z lent) y);
     }

@@ -9,8 +9,6 @@ use lib.ListN.{length, take}
 use Rattle.cells.specs.Cells.{cells, over}
 use Rattle.cells.specs.Functions.{Function, functions}
 use Rattle.cells.specs.declared.refusal.Refusal.{Refusal}
-use Rattle.cells.specs.declared.refusal.Checked.{Checked}
-use Rattle.cells.specs.declared.refusal.Checked.TheVariants.{Good, Refused as RefusedBy}
 use Rattle.cells.proofs.Over.{over-take}
 use Rattle.machine.specs.Records.{SameRecords}
 use Rattle.machine.proofs.Growth.{same_trans}
@@ -26,13 +24,14 @@ use Rattle.image.specs.SiteCheck.{SitesPass}
 use Rattle.passes.specs.Promises.{reply_of, is_written, length_written, Each}
 use Rattle.passes.specs.Passes.{pass_bytes, pass_count, pass_check, answer_as, output_as, pass_answer, pass_output, report}
 use Rattle.passes.specs.declared.Pass.TheVariants.{Both}
-use Rattle.passes.specs.declared.Rewrite.{Rewrite}
-use Rattle.passes.specs.declared.Rewrite.TheVariants.{Written, Refused}
 use Rattle.passes.proofs.Done.{check_good, bytes_shorter}
 use Rattle.rest.specs.Rounds.{image_after, rest_bytes, rest_count, rest_answer, rest_output}
 use Rattle.rest.specs.Promises.{RoundDone, AtRest, Rested, RestDone, EitherRests}
 use Rattle.rest.proofs.Still.{all}
 use Rattle.rest.proofs.Rounds.{rounds_pass, rounds_preserved, twice_functions, third_zero, third_same, within_three, rest_bytes_lem}
+use Rattle.std.specs.Prelude.{Ok, Err}
+use Rattle.cells.specs.Checked.{Checked}
+use Rattle.passes.specs.Rewrite.{Rewrite}
 
 module _ (k : RuleSet) where
   -- ---- each function
@@ -60,14 +59,14 @@ module _ (k : RuleSet) where
   round_done : (s : List ℕ) (n : ℕ) (lent : List ℕ) → SitesPass s → length (image_after k n s) ≤ length lent → RoundDone k s n lent
   unfolding pass_answer pass_output
   round_done s n lent g l =
-      let c : pass_check (image_after k n s) (length lent) ≡ Good = (check_good (image_after k n s) (length lent)).1 (rounds_pass k s g n, l) in
+      let c : pass_check (image_after k n s) (length lent) ≡ Ok tt = (check_good (image_after k n s) (length lent)).1 (rounds_pass k s g n, l) in
       record { answer = rw c; bytes = rw c }
 
   at_rest : (s lent : List ℕ) → SitesPass s → length (image_after k 2 s) ≤ length lent → AtRest k (image_after k 2 s) lent
   at_rest s lent g l =
       let d : RoundDone k s 2 lent = round_done s 2 lent g l in
       record {
-        answer = d.answer ∙ ap₂ (λ (n m : ℕ). Written n (report m)) (ap length (third_same k s g)) (third_zero k s g);
+        answer = d.answer ∙ ap₂ (λ (n m : ℕ). Ok (record { length = n; report = (report m) })) (ap length (third_same k s g)) (third_zero k s g);
         bytes = d.bytes ∙ ap (λ (z : List ℕ). over z lent) (third_same k s g);
       }
 
@@ -75,28 +74,28 @@ module _ (k : RuleSet) where
 
   record Facts (s before after : List ℕ) (r : Rewrite) : Type 0 where
     accepted : (is_written r ≡ true) ↔ (SitesPass s × (length s ≤ length before))
-    refused : (x : Refusal) → (r ≡ Refused x) ↔ (pass_answer (Both k) s (length before) ≡ Refused x)
+    refused : (x : Refusal) → (r ≡ Err x) ↔ (pass_answer (Both k) s (length before) ≡ Err x)
     shorter : length_written r ≤ length s
     written : is_written r ≡ true → take (length_written r) after ≡ pass_bytes (Both k) (pass_bytes (Both k) s)
     size : is_written r ≡ true → length_written r ≡ length (pass_bytes (Both k) (pass_bytes (Both k) s))
 
-  refused_apart : (n m : ℕ) (x : Refusal) → Written n (report m) ≡ Refused x → ⊥
+  refused_apart : (n m : ℕ) (x : Refusal) → ◌≡◌ {A = Rewrite} (Ok (record { length = n; report = (report m) })) (Err x) → ⊥
   refused_apart n m x e = let z : ◌≡◌ {A = ℕ} 0 1 = cc in omega arith
 
   facts : (s before : List ℕ) (a : Checked) → pass_check s (length before) ≡ a
       → Facts s before (output_as a (rest_bytes k s) before) (answer_as a (length (rest_bytes k s)) (rest_count k s))
   unfolding pass_answer
-  facts s before (RefusedBy y) e = record {
+  facts s before (Err y) e = record {
     accepted = (
       (λ f. absurd (true≢false (sym f))),
-      (λ g. let f : RefusedBy y ≡ Good = sym e ∙ (check_good s (length before)).1 g in let z : ◌≡◌ {A = ℕ} 0 1 = cc in absurd (omega arith)),
+      (λ g. let f : Err y ≡ Ok tt = sym e ∙ (check_good s (length before)).1 g in let z : ◌≡◌ {A = ℕ} 0 1 = cc in absurd (omega arith)),
     );
     refused = λ x. ((λ f. rw e f), (λ f. rw e at f));
     shorter = omega arith;
     written = λ f. absurd (true≢false (sym f));
     size = λ f. absurd (true≢false (sym f));
   }
-  facts s before Good e =
+  facts s before (Ok tt) e =
       let g = (check_good s (length before)).0 e in
       let s₁ : List ℕ = pass_bytes (Both k) s in
       let b : rest_bytes k s ≡ pass_bytes (Both k) s₁ = rest_bytes_lem k s g.0 in

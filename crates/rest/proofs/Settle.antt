@@ -3,9 +3,9 @@
 -- After one round there is no cell between Ret or Jmp and the next label, no Jmp to the next cell, and nothing to fold (`Settled`). Labels that
 -- a removed Jmp stood between may be neighbours and alike, and so may be loads that a fold made. The second round takes these, and nothing else
 -- (`second`): no jump, nothing unreachable, so no event, and no fold. After it there is nothing left (`Quiet`).
+use Rattle.std.specs.Prelude.{Option, None, Some}
 use mathlib.Core.Path.{◌≡◌, refl, sym, ◌∙◌, ap, fun_ext, subst}
 use mathlib.Core.Bool.{Bool, true, false, true≢false, ◌&&◌, not}
-use mathlib.Core.Option.{Option, none, some}
 use mathlib.Core.List.{List, [], ◌∷◌}
 use Prim.Native.Nat.{ℕ}
 use native.Mathlib.Omega.{arith}
@@ -21,14 +21,14 @@ use Rattle.crystalfold.specs.Fold.{Table, unknown, note, folded_to, dst_of, know
 
 -- ---- tests
 
-label_goes_on : (i : Ins) (l : ℕ) → label_of i ≡ some l → terminal i ≡ false
+label_goes_on : (i : Ins) (l : ℕ) → label_of i ≡ Some l → terminal i ≡ false
 label_goes_on i l e = rw (label_is i l e)
 
-label_unknown : (f : Rules) (t : Table) (i : Ins) (l : ℕ) → label_of i ≡ some l → known_after f t i ≡ unknown
+label_unknown : (f : Rules) (t : Table) (i : Ins) (l : ℕ) → label_of i ≡ Some l → known_after f t i ≡ unknown
 label_unknown f t i l e = rw (label_is i l e)
 
 -- a cell that is no label and not cut off is reached
-not_cut : (b : Bool) (k : Option ℕ) → k ≡ none → (b && not (is_there k)) ≡ false → b ≡ false
+not_cut : (b : Bool) (k : Option ℕ) → k ≡ None → (b && not (is_there k)) ≡ false → b ≡ false
 not_cut true k e x = absurd (true≢false (rw e at x))
 not_cut false k e x = refl
 
@@ -52,7 +52,7 @@ module _ {C : Type 0} (see : C → Ins) where
   -- the fold
   abbrev Folded : Rules → Table → List C → Type 0
   Folded f t [] = Unit {0}
-  Folded f t (c ∷ p) = (folded_to f t (see c) ≡ none) × Folded f (known_after f t (see c)) p
+  Folded f t (c ∷ p) = (folded_to f t (see c) ≡ None) × Folded f (known_after f t (see c)) p
 
   dedupe_rests : (k : Option ℕ) (p : List C) → alike k (next see label_of p) ≡ false → Swept label_of label_of p → dedupe see k p ≡ p
   dedupe_rests k [] e x = refl
@@ -98,7 +98,7 @@ module _ {C : Type 0} (see : C → Ins) where
       (λ y. rw y (next_load p ∙ sym (alike_eq (removable_load (see c)) (next see removable_load p) y)))
       (λ y. rw y)
 
-  no_label : (p : List C) (d : ℕ) → next see removable_load p ≡ some d → next see label_of p ≡ none
+  no_label : (p : List C) (d : ℕ) → next see removable_load p ≡ Some d → next see label_of p ≡ None
   no_label [] d e = refl
   no_label (c ∷ p) d e = load_label (see c) d e
 
@@ -117,7 +117,7 @@ module _ {C : Type 0} (see : C → Ins) where
       (λ y. rw y (rw (next_load p) y, loads-swept p))
 
   -- behind a Jmp stands a label, which the sweep for jumps keeps: a Jmp that it keeps is no jump to the next cell afterwards
-  jump_next : (c : C) (p : List C) (l : ℕ) → jump_of (see c) ≡ some l → Reached (terminal (see c)) p → next see label_of (sweep see jump_of label_of p) ≡ next see label_of p
+  jump_next : (c : C) (p : List C) (l : ℕ) → jump_of (see c) ≡ Some l → Reached (terminal (see c)) p → next see label_of (sweep see jump_of label_of p) ≡ next see label_of p
   jump_next c [] l e x = refl
   jump_next c (a ∷ p) l e x =
       let w : terminal (see c) ≡ true = rw (jump_is (see c) l e) in
@@ -134,8 +134,8 @@ module _ {C : Type 0} (see : C → Ins) where
       (λ y. rw y (go (jump_of (see c)) refl y, jumps-swept (terminal (see c)) p x.1))
     where
       go : (k : Option ℕ) → jump_of (see c) ≡ k → alike (jump_of (see c)) (next see label_of p) ≡ false → alike (jump_of (see c)) (next see label_of (sweep see jump_of label_of p)) ≡ false
-      go none e y = rw e
-      go (some l) e y = rw (jump_next c p l e x.1) y
+      go None e y = rw e
+      go (Some l) e y = rw (jump_next c p l e x.1) y
 
   -- ---- what later sweeps keep
 
@@ -143,7 +143,7 @@ module _ {C : Type 0} (see : C → Ins) where
   weaker b [] x = tt
   weaker b (c ∷ p) x = (refl, x.1)
 
-  reached_sweep : (f g : Ins → Option ℕ) → ((i : Ins) (l : ℕ) → f i ≡ some l → label_of i ≡ none) → (b : Bool) (p : List C) → Reached b p → Reached b (sweep see f g p)
+  reached_sweep : (f g : Ins → Option ℕ) → ((i : Ins) (l : ℕ) → f i ≡ Some l → label_of i ≡ None) → (b : Bool) (p : List C) → Reached b p → Reached b (sweep see f g p)
   reached_sweep f g u b [] x = tt
   reached_sweep f g u b (c ∷ p) x = by_test (alike (f (see c)) (next see g p))
       (λ y.
@@ -152,7 +152,7 @@ module _ {C : Type 0} (see : C → Ins) where
       (λ y. rw y (x.0, reached_sweep f g u (terminal (see c)) p x.1))
 
   -- b and k are of the cell just kept
-  reached_dedupe : (b : Bool) (k : Option ℕ) → ((l : ℕ) → k ≡ some l → b ≡ false) → (p : List C) → Reached b p → Reached b (dedupe see k p)
+  reached_dedupe : (b : Bool) (k : Option ℕ) → ((l : ℕ) → k ≡ Some l → b ≡ false) → (p : List C) → Reached b p → Reached b (dedupe see k p)
   reached_dedupe b k u [] x = tt
   reached_dedupe b k u (c ∷ p) x = by_test (alike k (label_of (see c)))
       (λ y.
@@ -167,7 +167,7 @@ module _ {C : Type 0} (see : C → Ins) where
       (λ y. rw y (swept-loads f p x.1))
       (λ y. rw y (rw (next_label p) x.0, swept-loads f p x.1))
 
-  next-kept : (p : List C) → next see label_of (dedupe see none p) ≡ next see label_of p
+  next-kept : (p : List C) → next see label_of (dedupe see None p) ≡ next see label_of p
   next-kept [] = refl
   next-kept (c ∷ p) = refl
 
@@ -178,8 +178,8 @@ module _ {C : Type 0} (see : C → Ins) where
       (λ y. rw y (go (jump_of (see c)) refl, jumps-dedupe (label_of (see c)) p x.1))
     where
       go : (j : Option ℕ) → jump_of (see c) ≡ j → alike (jump_of (see c)) (next see label_of (dedupe see (label_of (see c)) p)) ≡ false
-      go none e = rw e
-      go (some l) e = rw (jump_label (see c) l e, next-kept p) x.0
+      go None e = rw e
+      go (Some l) e = rw (jump_label (see c) l e, next-kept p) x.0
 
   module _ (f : Rules) where
     -- nothing folds exactly if the count is 0
@@ -187,16 +187,16 @@ module _ {C : Type 0} (see : C → Ins) where
     none-folded t [] e = tt
     none-folded t (c ∷ p) e = (go (folded_to f t (see c)) (omega (arith, e)), none-folded (known_after f t (see c)) p (omega (arith, e)))
       where
-        go : (k : Option Const) → one_if k ≡ 0 → k ≡ none
-        go none e = refl
-        go (some v) e = absurd (omega (arith, e))
+        go : (k : Option Const) → one_if k ≡ 0 → k ≡ None
+        go None e = refl
+        go (Some v) e = absurd (omega (arith, e))
 
     folded-none : (t : Table) (p : List C) → Folded f t p → fold_count see f t p ≡ 0
     folded-none t [] x = refl
     folded-none t (c ∷ p) x = let a : one_if (folded_to f t (see c)) ≡ 0 = rw x.0 in omega (arith, a, folded-none (known_after f t (see c)) p x.1)
 
     -- the second of two equal labels changes nothing that is known
-    folded-dedupe : (t : Table) (k : Option ℕ) → ((l : ℕ) → k ≡ some l → t ≡ unknown) → (p : List C) → Folded f t p → Folded f t (dedupe see k p)
+    folded-dedupe : (t : Table) (k : Option ℕ) → ((l : ℕ) → k ≡ Some l → t ≡ unknown) → (p : List C) → Folded f t p → Folded f t (dedupe see k p)
     folded-dedupe t k u [] x = tt
     folded-dedupe t k u (c ∷ p) x = by_test (alike k (label_of (see c)))
         (λ y.
@@ -206,14 +206,14 @@ module _ {C : Type 0} (see : C → Ins) where
         (λ y. rw y (x.0, folded-dedupe (known_after f t (see c)) (label_of (see c)) (label_unknown f t (see c)) p x.1))
 
     -- before a load into d, what is known of d does not matter
-    before_load : (d : ℕ) (j : Option Const) (t : Table) (p : List C) → next see removable_load p ≡ some d → Folded f (note d j t) p → Folded f t p
+    before_load : (d : ℕ) (j : Option Const) (t : Table) (p : List C) → next see removable_load p ≡ Some d → Folded f (note d j t) p → Folded f t p
     before_load d j t [] e x = tt
     before_load d j t (c ∷ p) e x =
         let (v, w) = load_is (see c) d e in
         (rw w, subst (λ s. Folded f s p) (after v w) x.1)
       where
         after : (v : Const) → see c ≡ load d v → known_after f (note d j t) (see c) ≡ known_after f t (see c)
-        after v w = rw w (note-note d j (some v) t)
+        after v w = rw w (note-note d j (Some v) t)
 
     folded-loads : (t : Table) (p : List C) → Folded f t p → Folded f t (sweep see removable_load removable_load p)
     folded-loads t [] x = tt
@@ -223,7 +223,7 @@ module _ {C : Type 0} (see : C → Ins) where
         let (w, z) = load_is (see c) d u in
         let p' : List C = sweep see removable_load removable_load p in
         let q : Folded f (known_after f t (see c)) p' = folded-loads (known_after f t (see c)) p x.1 in
-        rw y (before_load d (some w) t p' (next_load p ∙ v) (subst (λ s. Folded f s p') (ap (known_after f t) z) q)))
+        rw y (before_load d (Some w) t p' (next_load p ∙ v) (subst (λ s. Folded f s p') (ap (known_after f t) z) q)))
         (λ y. rw y (x.0, folded-loads (known_after f t (see c)) p x.1))
 
     module _ (make : ℕ → Const → C) (seen : (d : ℕ) (v : Const) → see (make d v) ≡ load d v) where
@@ -246,7 +246,7 @@ module _ {C : Type 0} (see : C → Ins) where
           → (t : Table) (c : C) → g (see (here t c)) ≡ g (see c)
       same_of g a u w t c = go (folded_to f t (see c)) refl
         where
-          is : (i : Ins) (v : Const) → folded_to f t i ≡ some v → g i ≡ a
+          is : (i : Ins) (v : Const) → folded_to f t i ≡ Some v → g i ≡ a
           is (load d z) v e = u d z
           is (comp b o d x y) v e = w b o d x y
           is (label l) v e = let z : ◌≡◌ {A = Bool} true false = cc in absurd (true≢false z)
@@ -256,14 +256,14 @@ module _ {C : Type 0} (see : C → Ins) where
           is (act b d z) v e = let z : ◌≡◌ {A = Bool} true false = cc in absurd (true≢false z)
 
           go : (k : Option Const) → folded_to f t (see c) ≡ k → g (see (as_load see f make c (dst_of (see c)) k)) ≡ g (see c)
-          go none e = refl
-          go (some v) e = ap g (seen (dst_of (see c)) v) ∙ u (dst_of (see c)) v ∙ sym (is (see c) v e)
+          go None e = refl
+          go (Some v) e = ap g (seen (dst_of (see c)) v) ∙ u (dst_of (see c)) v ∙ sym (is (see c) v e)
 
       here_label : (t : Table) (c : C) → label_of (see (here t c)) ≡ label_of (see c)
-      here_label = same_of label_of none (λ d v. refl) (λ b o d x y. refl)
+      here_label = same_of label_of None (λ d v. refl) (λ b o d x y. refl)
 
       here_jump : (t : Table) (c : C) → jump_of (see (here t c)) ≡ jump_of (see c)
-      here_jump = same_of jump_of none (λ d v. refl) (λ b o d x y. refl)
+      here_jump = same_of jump_of None (λ d v. refl) (λ b o d x y. refl)
 
       here_terminal : (t : Table) (c : C) → terminal (see (here t c)) ≡ terminal (see c)
       here_terminal = same_of terminal false (λ d v. refl) (λ b o d x y. refl)
@@ -281,10 +281,10 @@ module _ {C : Type 0} (see : C → Ins) where
       jumps-fold t (c ∷ p) x = (rw (here_jump t c, next-fold (known_after f t (see c)) p) x.0, jumps-fold (known_after f t (see c)) p x.1)
 
       -- a folded cell is not folded again, and leaves known what the command did
-      here_known : (t : Table) (c : C) → (folded_to f t (see (here t c)) ≡ none) × (known_after f t (see (here t c)) ≡ known_after f t (see c))
+      here_known : (t : Table) (c : C) → (folded_to f t (see (here t c)) ≡ None) × (known_after f t (see (here t c)) ≡ known_after f t (see c))
       here_known t c = go (folded_to f t (see c)) refl
         where
-          at : (i : Ins) (v : Const) → folded_to f t i ≡ some v → known_after f t i ≡ note (dst_of i) (some v) t
+          at : (i : Ins) (v : Const) → folded_to f t i ≡ Some v → known_after f t i ≡ note (dst_of i) (Some v) t
           at (load d z) v e = cc
           at (comp b o d x y) v e = rw e
           at (label l) v e = cc
@@ -294,9 +294,9 @@ module _ {C : Type 0} (see : C → Ins) where
           at (act b d z) v e = cc
 
           go : (k : Option Const) → folded_to f t (see c) ≡ k
-              → (folded_to f t (see (as_load see f make c (dst_of (see c)) k)) ≡ none) × (known_after f t (see (as_load see f make c (dst_of (see c)) k)) ≡ known_after f t (see c))
-          go none e = (e, refl)
-          go (some v) e = (ap (folded_to f t) (seen (dst_of (see c)) v), ap (known_after f t) (seen (dst_of (see c)) v) ∙ sym (at (see c) v e))
+              → (folded_to f t (see (as_load see f make c (dst_of (see c)) k)) ≡ None) × (known_after f t (see (as_load see f make c (dst_of (see c)) k)) ≡ known_after f t (see c))
+          go None e = (e, refl)
+          go (Some v) e = (ap (folded_to f t) (seen (dst_of (see c)) v), ap (known_after f t) (seen (dst_of (see c)) v) ∙ sym (at (see c) v e))
 
       fold-folded : (t : Table) (p : List C) → Folded f t (folds t p)
       fold-folded t [] = tt
@@ -319,7 +319,7 @@ module _ {C : Type 0} (see : C → Ins) where
 
       settles : (p : List C) → Settled (rewrite p)
       settles p =
-          let p₁ : List C = dedupe see none p in
+          let p₁ : List C = dedupe see None p in
           let p₂ : List C = reach see false p₁ in
           let p₃ : List C = sweep see jump_of label_of p₂ in
           let p₄ : List C = sweep see removable_load removable_load p₃ in
@@ -331,28 +331,28 @@ module _ {C : Type 0} (see : C → Ins) where
           }
 
       -- the second round removes repeated labels, then overwritten loads, and no more
-      second_reached : (p : List C) → Settled p → Reached false (dedupe see none p)
-      second_reached p s = reached_dedupe false none (λ l e. refl) p s.reached
+      second_reached : (p : List C) → Settled p → Reached false (dedupe see None p)
+      second_reached p s = reached_dedupe false None (λ l e. refl) p s.reached
 
-      second_cleanup : (p : List C) → Settled p → cleanup see p ≡ sweep see removable_load removable_load (dedupe see none p)
+      second_cleanup : (p : List C) → Settled p → cleanup see p ≡ sweep see removable_load removable_load (dedupe see None p)
       second_cleanup p s =
-          let p₁ : List C = dedupe see none p in
+          let p₁ : List C = dedupe see None p in
           let a : reach see false p₁ ≡ p₁ = reach_rests false p₁ (second_reached p s) in
-          let b : sweep see jump_of label_of p₁ ≡ p₁ = sweep_rests jump_of label_of p₁ (jumps-dedupe none p s.jumps) in
+          let b : sweep see jump_of label_of p₁ ≡ p₁ = sweep_rests jump_of label_of p₁ (jumps-dedupe None p s.jumps) in
           rw (a, b)
 
       second_folded : (p : List C) → Settled p → Folded f unknown (cleanup see p)
-      second_folded p s = rw (second_cleanup p s) (folded-loads unknown (dedupe see none p) (folded-dedupe unknown none (λ l e. refl) p s.folded))
+      second_folded p s = rw (second_cleanup p s) (folded-loads unknown (dedupe see None p) (folded-dedupe unknown None (λ l e. refl) p s.folded))
 
-      second : (p : List C) → Settled p → rewrite p ≡ sweep see removable_load removable_load (dedupe see none p)
+      second : (p : List C) → Settled p → rewrite p ≡ sweep see removable_load removable_load (dedupe see None p)
       second p s = fold_rests unknown (cleanup see p) (second_folded p s) ∙ second_cleanup p s
 
       second_quiet : (p : List C) → Settled p → Quiet (rewrite p)
       second_quiet p s =
-          let p₁ : List C = dedupe see none p in
+          let p₁ : List C = dedupe see None p in
           record {
             settled = settles p;
-            labels = subst (Swept label_of label_of) (sym (second p s)) (swept-loads label_of p₁ (dedupe-swept none p));
+            labels = subst (Swept label_of label_of) (sym (second p s)) (swept-loads label_of p₁ (dedupe-swept None p));
             loads = subst (Swept removable_load removable_load) (sym (second p s)) (loads-swept p₁);
           }
 
@@ -361,7 +361,7 @@ module _ {C : Type 0} (see : C → Ins) where
       third_cleanup p =
           let q : List C = rewrite (rewrite p) in
           let z : Quiet q = second_quiet (rewrite p) (settles p) in
-          rw (dedupe_rests none q refl z.labels, reach_rests false q z.settled.reached, sweep_rests jump_of label_of q z.settled.jumps, sweep_rests removable_load removable_load q z.loads)
+          rw (dedupe_rests None q refl z.labels, reach_rests false q z.settled.reached, sweep_rests jump_of label_of q z.settled.jumps, sweep_rests removable_load removable_load q z.loads)
 
       pub third_folds : (p : List C) → fold_count see f unknown (rewrite (rewrite p)) ≡ 0
       third_folds p = folded-none unknown (rewrite (rewrite p)) (second_quiet (rewrite p) (settles p)).settled.folded

@@ -2,7 +2,6 @@
 -- same function, head and all; and the third counts 0.
 use mathlib.Core.Path.{◌≡◌, refl, ◌∙◌, ap, ap₂}
 use mathlib.Core.Bool.{Bool, false}
-use mathlib.Core.Option.{none}
 use mathlib.Core.List.{List, [], ◌∷◌, map}
 use Prim.Native.Nat.{ℕ}
 use native.Mathlib.Omega.{arith}
@@ -15,8 +14,6 @@ use Rattle.cells.specs.View.{view, load_cell}
 use Rattle.cells.proofs.Lists.{Sub, end, keep, skip, sub_length, nothing_in}
 use Rattle.cells.proofs.Views.{view_load}
 use Rattle.sites.specs.Sites.{event_site}
-use Rattle.sites.specs.declared.Site.{Site}
-use Rattle.sites.specs.declared.Site.TheVariants.{Absent, At}
 use Rattle.sites.specs.declared.Which.{Which}
 use Rattle.sites.specs.declared.Which.TheVariants.{Activation, Write}
 use Rattle.cleanup.specs.Marks.{terminal, jump_of, removable_load}
@@ -32,6 +29,7 @@ use Rattle.rewrite.specs.AllFunctions.{sum_of}
 use Rattle.rewrite.specs.Rewrite.{rewrite_function, rewrite_code, rewrite_count}
 use Rattle.rewrite.proofs.RewritePasses.{rewrite_code_lem}
 use Rattle.rest.proofs.Settle.{third_cleanup, third_folds, fold_still}
+use Rattle.std.specs.Prelude.{Option, Some, None}
 
 -- as many cells of a list as it has are all of them
 sub_same : {A : Type 0} {q p : List A} → Sub q p → length q ≡ length p → q ≡ p
@@ -52,9 +50,9 @@ new_head_twice (a ∷ b ∷ c ∷ d ∷ e ∷ f ∷ g ∷ t) n m = refl
 
 -- ---- events: none goes where no cell is unreachable
 
-on_nothing : (w : Which) (x : Site) → on_gone w [] x ≡ false
-on_nothing w Absent = refl
-on_nothing w (At x) = refl
+on_nothing : (w : Which) (x : Option ℕ) → on_gone w [] x ≡ false
+on_nothing w None = refl
+on_nothing w (Some x) = refl
 
 stays_all : (es : List Cell) → only (stays []) es ≡ es
 stays_all [] = refl
@@ -69,7 +67,7 @@ none-removed cs e =
     let p₃ : List Cell = remove_noop_jumps view p₂ in
     let b = both_lengths (λ (t : Bool) (c : Cell) (_ : List Cell). cut_off view t c) (λ (c : Cell). terminal (view c)) false p₁ in
     nothing_in (removed view cs)
-    (omega (arith, e, b, sub_length (sub_dedupe view none cs), sub_length (sub_sweep view jump_of label_of p₂), sub_length (sub_sweep view removable_load removable_load p₃)))
+    (omega (arith, e, b, sub_length (sub_dedupe view None cs), sub_length (sub_sweep view jump_of label_of p₂), sub_length (sub_sweep view removable_load removable_load p₃)))
 
 pub events_still : (cs es : List Cell) → clean_code cs ≡ cs → clean_events cs es ≡ es
 unfolding clean_events

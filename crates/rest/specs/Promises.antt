@@ -1,6 +1,6 @@
 -- Promise: what the rewrite until it rests promises, by a rule set k: s is the image, `before` and `after` are what the lent output holds at entry and at
 -- exit, and r is the answer. `answer` and `bytes` say everything outright; the other fields say what follows.
-use Rattle.std.specs.Prelude.{ℕ, suc, ◌≤◌, ◌<◌, ◌≡◌, ◌↔◌, List, true, length, take}
+use Rattle.std.specs.Prelude.{ℕ, suc, ◌≤◌, ◌<◌, ◌≡◌, ◌↔◌, List, true, length, take, Ok, Err}
 use Rattle.cells.specs.Cells.{cells, over}
 use Rattle.cells.specs.Functions.{Function, functions}
 use Rattle.cells.specs.Lists.{All}
@@ -16,13 +16,12 @@ use Rattle.image.specs.SiteCheck.{SitesPass}
 use Rattle.passes.specs.Promises.{reply_of, is_written, length_written, Each}
 use Rattle.passes.specs.Passes.{pass_answer, pass_output, report}
 use Rattle.passes.specs.declared.Pass.TheVariants.{Both}
-use Rattle.passes.specs.declared.Rewrite.{Rewrite}
-use Rattle.passes.specs.declared.Rewrite.TheVariants.{Written, Refused}
 use Rattle.rest.specs.Rounds.{image_after, reported, rounds_to_rest, rest_answer, rest_output}
+use Rattle.passes.specs.Rewrite.{Rewrite}
 
 -- a round is the rewrite itself: of what n rounds handed back, lent an output as long as that or longer, it is accepted, reports this and writes this
 pub record RoundDone (k : RuleSet) (s : List ℕ) (n : ℕ) (lent : List ℕ) : Type 0 where
-  pub answer : pass_answer (Both k) (image_after k n s) (length lent) ≡ Written (length (image_after k (suc n) s)) (report (reported k n s))
+  pub answer : pass_answer (Both k) (image_after k n s) (length lent) ≡ Ok (record { length = (length (image_after k (suc n) s)); report = (report (reported k n s)) })
   pub bytes : pass_output (Both k) (image_after k n s) lent ≡ over (image_after k (suc n) s) lent
 
 -- n rounds are those "until one reports 0": the last reports 0, and none before it does
@@ -38,7 +37,7 @@ pub record WithinThree (k : RuleSet) (s : List ℕ) (n : ℕ) : Type 0 where
 
 -- "a further rewrite changes no byte": lent an output as long as the image y, or longer, it is accepted, reports 0, and writes y
 pub record AtRest (k : RuleSet) (y lent : List ℕ) : Type 0 where
-  pub answer : pass_answer (Both k) y (length lent) ≡ Written (length y) (report 0)
+  pub answer : pass_answer (Both k) y (length lent) ≡ Ok (record { length = (length y); report = (report 0) })
   pub bytes : pass_output (Both k) y lent ≡ over y lent
 
 -- a function as sent and as handed back, by the rules f
@@ -57,7 +56,7 @@ pub record RestDone (k : RuleSet) (s before after : List ℕ) (r : Rewrite) : Ty
   -- success exactly if the image passes the image check and the site check and the output is as long as the image
   pub accepted : (is_written r ≡ true) ↔ (SitesPass s × (length s ≤ length before))
   -- a refusal is the rewrite's, and the rewrite's refusal is one
-  pub refused : (x : Refusal) → (r ≡ Refused x) ↔ (pass_answer (Both k) s (length before) ≡ Refused x)
+  pub refused : (x : Refusal) → (r ≡ Err x) ↔ (pass_answer (Both k) s (length before) ≡ Err x)
   -- the rounds that the answer and the bytes are defined by, each of them and how many there are
   pub each_round : is_written r ≡ true → (n : ℕ) (lent : List ℕ) → length (image_after k n s) ≤ length lent → RoundDone k s n lent
   pub rounds : is_written r ≡ true → WithinThree k s (rounds_to_rest k s)

@@ -4,7 +4,7 @@ use Rattle.std.specs.Prelude.{ℕ, zero, suc, ◌+◌, cond, List, eqb, length}
 use Rattle.crystalfold.specs.declared.rules.RuleSet.{RuleSet}
 use Rattle.passes.specs.Passes.{pass_bytes, pass_count, pass_check, answer_as, output_as}
 use Rattle.passes.specs.declared.Pass.TheVariants.{Both}
-use Rattle.passes.specs.declared.Rewrite.{Rewrite}
+use Rattle.passes.specs.Rewrite.{Rewrite}
 
 -- the image after n rounds
 abbrev pub image_after : RuleSet → ℕ → List ℕ → List ℕ

@@ -7,7 +7,6 @@ use lib.ListN.{length}
 use Rattle.cells.specs.Functions.{Function}
 use Rattle.cells.specs.Lists.{All}
 use Rattle.cells.specs.WellFormed.{WellFormed}
-use Rattle.cells.specs.declared.refusal.Checked.TheVariants.{Good}
 use Rattle.sites.specs.AllSites.{sites_answer}
 use Rattle.sites.proofs.EachPasses.{each_passes}
 use Rattle.cleanup.specs.Cleanup.{clean_function}
@@ -19,8 +18,9 @@ use Rattle.rewrite.specs.Rewrite.{rewrite_function, rewrite_count}
 use Rattle.rewrite.specs.AllFunctions.{clean_all, fold_all, rewrite_all, sum_of, rewrite_count_all}
 use Rattle.rewrite.proofs.RewritePasses.{rewrite_well_formed}
 use Rattle.rewrite.proofs.RewriteCounts.{rewrite_few}
+use Rattle.std.specs.Prelude.{Ok}
 
-pub clean_all_passes : (position : ℕ) (fs : List Function) → sites_answer position fs ≡ Good → sites_answer position (clean_all fs) ≡ Good
+pub clean_all_passes : (position : ℕ) (fs : List Function) → sites_answer position fs ≡ Ok tt → sites_answer position (clean_all fs) ≡ Ok tt
 clean_all_passes = each_passes clean_function clean_function_passes
 
 module _ (f : Rules) where
@@ -36,10 +36,10 @@ module _ (f : Rules) where
   count_each (g ∷ fs) = omega (arith, count_each fs)
 
   -- functions that all pass the site check all pass it again
-  pub fold-all_passes : (position : ℕ) (fs : List Function) → sites_answer position fs ≡ Good → sites_answer position (fold_all f fs) ≡ Good
+  pub fold-all_passes : (position : ℕ) (fs : List Function) → sites_answer position fs ≡ Ok tt → sites_answer position (fold_all f fs) ≡ Ok tt
   fold-all_passes = each_passes (fold_function f) (fold-function_passes f)
 
-  pub rewrite_all_passes : (position : ℕ) (fs : List Function) → sites_answer position fs ≡ Good → sites_answer position (rewrite_all f fs) ≡ Good
+  pub rewrite_all_passes : (position : ℕ) (fs : List Function) → sites_answer position fs ≡ Ok tt → sites_answer position (rewrite_all f fs) ≡ Ok tt
   rewrite_all_passes position fs e = fold-all_passes position (clean_all fs) (clean_all_passes position fs e)
 
   -- and are well-formed again

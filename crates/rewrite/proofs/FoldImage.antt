@@ -1,10 +1,10 @@
 -- CrystalFold in one go over all cells of an image, heads and events among them, is CrystalFold function by function: a head is a barrier, so that
 -- nothing is known where a function starts, and neither a head nor an event is folded.
+use Rattle.std.specs.Prelude.{None}
 use mathlib.Core.Path.{◌≡◌, refl, ap, ap₂, ◌∙◌}
 use mathlib.Core.Bool.{true}
-use mathlib.Core.Option.{none}
 use mathlib.Core.List.{List, [], ◌∷◌, ◌++◌}
-use Prim.Native.Nat.{ℕ, ◌+◌}
+use Prim.Native.Nat.{◌+◌}
 use native.Mathlib.Omega.{arith}
 use Rattle.cells.specs.Cells.{Cell}
 use Rattle.cells.specs.Functions.{Function, there, cells_of, cells_of_all}
@@ -35,7 +35,7 @@ module _ (f : Rules) where
 
   -- barriers stay as they are
   abbrev Still : Cell → Type 0
-  Still c = view c ≡ act c none true
+  Still c = view c ≡ act c None true
 
   still-fold : (t : Table) (p : List Cell) → All Still p → fold view f load_cell t p ≡ p
   still-fold t [] a = refl

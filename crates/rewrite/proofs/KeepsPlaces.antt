@@ -1,6 +1,6 @@
 -- The rewrite, by any rules, keeps each label name at one place, so it can be done again.
+use Rattle.std.specs.Prelude.{option_map}
 use mathlib.Core.Path.{sym, ◌∙◌, ap}
-use mathlib.Core.Option
 use mathlib.Core.List.{List, [], ◌∷◌, map}
 use Rattle.cells.specs.Cells.{Cell}
 use Rattle.cells.specs.Ins.{Ins}
@@ -21,7 +21,7 @@ use Rattle.rewrite.specs.Rewrite.{rewrite_code}
 once-fold : (f : Rules) (t : Table) (p : List Ins) → Once p → Once (folds f t p)
 once-fold f t [] o = tt
 once-fold f t (i ∷ p) o = (
-  λ l e. seek-fold f l (known_after f t i) p ∙ ap (Option.map (folds f unknown)) (o.0 l (sym (folded_label f t i) ∙ e)),
+  λ l e. seek-fold f l (known_after f t i) p ∙ ap (option_map (folds f unknown)) (o.0 l (sym (folded_label f t i) ∙ e)),
   once-fold f (known_after f t i) p o.1,
 )
 

@@ -1,5 +1,5 @@
 -- The records theorem: cleanup and CrystalFold together, under the premise, for any sound rules and so for every rule set.
-use mathlib.Core.Path.{◌≡◌, refl}
+use mathlib.Core.Path.{refl}
 use mathlib.Core.List.{List, map}
 use Rattle.cells.specs.Cells.{Cell}
 use Rattle.cells.specs.Functions.{Function}

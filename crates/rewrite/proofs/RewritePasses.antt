@@ -7,7 +7,6 @@ use Rattle.cells.specs.Cells.{Cell}
 use Rattle.cells.specs.Functions.{Function}
 use Rattle.cells.specs.Lists.{only}
 use Rattle.cells.specs.WellFormed.{WellFormed}
-use Rattle.cells.specs.declared.refusal.Checked.TheVariants.{Good}
 use Rattle.sites.specs.Sites.{site_of, times}
 use Rattle.sites.specs.Validators.{site_check}
 use Rattle.sites.specs.declared.Which.{Which}
@@ -21,9 +20,10 @@ use Rattle.crystalfold.specs.CrystalFold.{fold_function}
 use Rattle.crystalfold.proofs.FoldPasses.{fold-function_passes, sites_folded}
 use Rattle.crystalfold.proofs.FoldWellFormed.{fold_well_formed}
 use Rattle.rewrite.specs.Rewrite.{rewrite_function, rewrite_code}
+use Rattle.std.specs.Prelude.{Ok}
 
 abbrev Passes : ℕ → Function → Type 0
-Passes position g = site_check position g.code g.events ≡ Good
+Passes position g = site_check position g.code g.events ≡ Ok tt
 
 module _ (f : Rules) where
   -- its cells
@@ -49,7 +49,7 @@ module _ (f : Rules) where
   rewrite_well_formed g w = fold_well_formed f (clean_function g) (clean_well_formed g w)
 
   -- of a function that passes, the events left are those each of whose sites stands on a rewritten cell
-  pub keeps_rewritten : (position : ℕ) (cs es : List Cell) → site_check position cs es ≡ Good → only (kept_event (rewrite_code f cs)) es ≡ clean_events cs es
+  pub keeps_rewritten : (position : ℕ) (cs es : List Cell) → site_check position cs es ≡ Ok tt → only (kept_event (rewrite_code f cs)) es ≡ clean_events cs es
   unfolding rewrite_code
   keeps_rewritten position cs es = keeps-alike cs (rewrite_code f cs) (λ w x. sites_folded f w x (clean_code cs)) position es
 

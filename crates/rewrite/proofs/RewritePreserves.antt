@@ -3,7 +3,6 @@ use mathlib.Core.Path.{◌≡◌}
 use Prim.Native.Nat.{ℕ}
 use Rattle.cells.specs.Functions.{Function}
 use Rattle.cells.specs.WellFormed.{WellFormed}
-use Rattle.cells.specs.declared.refusal.Checked.TheVariants.{Good}
 use Rattle.sites.specs.Validators.{site_check}
 use Rattle.sites.proofs.SitesFit.{anywhere}
 use Rattle.cleanup.specs.Cleanup.{clean_function}
@@ -16,8 +15,9 @@ use Rattle.rewrite.specs.Rewrite.{rewrite_function, rewrite_code}
 use Rattle.rewrite.specs.Preserved.{Preserved}
 use Rattle.rewrite.proofs.RewritePasses.{rewrite_passes, rewrite_well_formed}
 use Rattle.rewrite.proofs.RewriteCounts.{rewrite_count_lem, rewrite_few, rewrite_shorter, rewrite_events_fewer, rewrite_empty}
+use Rattle.std.specs.Prelude.{Ok}
 
-pub preserved : (f : Rules) (g : Function) (position : ℕ) → WellFormed g → site_check position g.code g.events ≡ Good → Preserved f g
+pub preserved : (f : Rules) (g : Function) (position : ℕ) → WellFormed g → site_check position g.code g.events ≡ Ok tt → Preserved f g
 unfolding rewrite_function rewrite_code fold_function clean_function
 preserved f g position w e = record {
   cleaned = λ p. clean_function_passes p g (anywhere position p g.code g.events e);

@@ -1,8 +1,7 @@
 -- Worked: Document 01's starred cases ('Cells on either edge') and its printed example, and registers past 255 (document 02, W7), through the whole
 -- rewrite with the default rules; and document 02's truth-order quads (W2) and divisions of an f64 by zero (W4), through both rewrites, the latter also
 -- by what is recorded before and after: a table each, and one theorem of all its rows.
-use Rattle.std.specs.Prelude.{◌≡◌, refl, true, false, List, [], ◌∷◌, ◌++◌, map, ℕ}
-use Rattle.std.proofs.Math.Option.{some}
+use Rattle.std.specs.Prelude.{◌≡◌, refl, true, false, List, [], ◌∷◌, ◌++◌, map, ℕ, Some}
 use Rattle.std.specs.Float.Ieee as Ieee
 use Rattle.leaves.specs.declared.quad.Quad.TheVariants.{N, F, T, S}
 use Rattle.leaves.specs.Signed.{wrap, add_i32, div_i32, mod_i32}
@@ -287,7 +286,7 @@ back_for d = folded (sent_for d) (LoadF64 1 d.dividend ∷ LoadF64 2 d.divisor �
 abbrev pub entries_for : Division → List Entry
 entries_for d =
     let registers = holding (other 0 ∷ con (f64 d.dividend) ∷ con (f64 d.divisor) ∷ con (f64 d.quotient) ∷ []) in
-    did (StoreVar 3) registers ∷ ended (returned (some 3)) registers ∷ []
+    did (StoreVar 3) registers ∷ ended (returned (Some 3)) registers ∷ []
 
 -- in five steps, each of its cells one
 abbrev pub recorded : List Cell → List Entry

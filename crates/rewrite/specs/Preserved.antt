@@ -1,10 +1,9 @@
 -- Promise: what the rewrite of one function preserves (document 01, 'Site check' and 'the Rust's other errors'), beside its runs: for a function whose
 -- cells pass the image check and whose sites pass both validators, and for any rules of the fold.
-use Rattle.std.specs.Prelude.{◌≡◌, true, [], ℕ, ◌+◌, ◌-◌, ◌≤◌, length}
+use Rattle.std.specs.Prelude.{◌≡◌, true, [], ℕ, ◌+◌, ◌-◌, ◌≤◌, length, Ok}
 use Rattle.cells.specs.Functions.{Function}
 use Rattle.cells.specs.View.{view}
 use Rattle.cells.specs.WellFormed.{WellFormed}
-use Rattle.cells.specs.declared.refusal.Checked.TheVariants.{Good}
 use Rattle.sites.specs.Sites.{site_of, event_site, stands}
 use Rattle.sites.specs.Validators.{site_check}
 use Rattle.sites.specs.declared.Which.TheVariants.{Activation, Write}
@@ -18,8 +17,8 @@ use Rattle.rewrite.specs.Rewrite.{rewrite_function, rewrite_count}
 
 pub record Preserved (f : Rules) (g : Function) : Type 0 where
   -- both validators pass what cleanup hands on and what the rewrite hands back, at any position
-  pub cleaned : (position : ℕ) → site_check position (clean_function g).code (clean_function g).events ≡ Good
-  pub rewritten : (position : ℕ) → site_check position (rewrite_function f g).code (rewrite_function f g).events ≡ Good
+  pub cleaned : (position : ℕ) → site_check position (clean_function g).code (clean_function g).events ≡ Ok tt
+  pub rewritten : (position : ℕ) → site_check position (rewrite_function f g).code (rewrite_function f g).events ≡ Ok tt
   -- its head and every one of its cells pass the image check
   pub formed : WellFormed (rewrite_function f g)
   -- cleanup's other errors: as many events go by activation site as sites were removed; each removed write site has an event left

@@ -7,8 +7,6 @@ use lib.ListN.{length}
 use Rattle.cells.specs.Cells.{cells}
 use Rattle.cells.specs.Check.{max_image}
 use Rattle.cells.specs.Functions.{functions}
-use Rattle.cells.specs.declared.refusal.Checked.{Checked}
-use Rattle.cells.specs.declared.refusal.Checked.TheVariants.{Good as Passed, Refused as RefusedBy}
 use Rattle.cells.proofs.Answers.{refused-good, or_left, or_right}
 use Rattle.cells.proofs.Lists.{tally-append}
 use Rattle.sites.specs.declared.Which.{Which}
@@ -21,17 +19,19 @@ use Rattle.sealing.specs.Sealing.{stands_in, functions_with}
 use Rattle.sealing.specs.Promises.{SealingPass}
 use Rattle.sealing.specs.Claim.{SealingJoins}
 use Rattle.sealing.proofs.Outcomes.{sealing_pass, in_one-function, sealing_good}
+use Rattle.std.specs.Prelude.{Ok, Err}
+use Rattle.cells.specs.Checked.{Checked}
 
 -- an answer that moves on is good exactly if it was
-moved-good : (p d : ℕ) (a : Checked) → moved_answer p d a ≡ Passed → a ≡ Passed
-moved-good p d Passed e = refl
-moved-good p d (RefusedBy x) e = absurd (refused-good e)
+moved-good : (p d : ℕ) (a : Checked) → moved_answer p d a ≡ Ok tt → a ≡ Ok tt
+moved-good p d (Ok tt) e = refl
+moved-good p d (Err x) e = absurd (refused-good e)
 
-module _ (s t : List ℕ) (i : image_answer s ≡ Passed) (l : length s + length t ≤ max_image) where
+module _ (s t : List ℕ) (i : image_answer s ≡ Ok tt) (l : length s + length t ≤ max_image) where
   sites_joined : SitesPass s → SitesPass t → SitesPass (s ++ t)
   sites_joined g h =
       let c = checks_joined s t i l in
-      let b : answer_behind s (site_answer t) ≡ Passed = rw ((site-good t).1 h) in
+      let b : answer_behind s (site_answer t) ≡ Ok tt = rw ((site-good t).1 h) in
       (site-good (s ++ t)).0 (c.behind_good ((site-good s).1 g) ∙ b)
 
   sites_parted : SitesPass (s ++ t) → SitesPass s × SitesPass t

@@ -4,6 +4,5 @@ pub mod Outcomes
 pub mod Kept
 pub mod LookedUp
 pub mod JoinedSealing
-pub mod Searching
 pub mod Gathering
 pub mod Checking

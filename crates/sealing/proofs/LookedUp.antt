@@ -11,7 +11,6 @@ use Rattle.cells.specs.Lists.{one}
 use Rattle.cells.proofs.Facts.{by_test}
 use Rattle.cells.proofs.Lists.{any_yes, any_no, yes_any, tally-append, all_each, all_parts}
 use Rattle.sites.specs.Sites.{site_of, event_site, is_site, stands, times}
-use Rattle.sites.specs.declared.Site.{Site}
 use Rattle.sites.specs.declared.Which.{Which}
 use Rattle.sites.specs.declared.Which.TheVariants.{Activation, Write}
 use Rattle.sites.proofs.SitesFit.{activation_sites, write_sites}
@@ -20,9 +19,10 @@ use Rattle.sealing.specs.Sealing.{stands_in}
 use Rattle.sealing.specs.Promises.{InOneFunction, SealingPass}
 use Rattle.sealing.specs.Claim.{EventsAlike, LookedUp}
 use Rattle.sealing.proofs.Outcomes.{sealing_good, in_one-function}
+use Rattle.std.specs.Prelude.{Option}
 
 -- two tests, one of which some element passes exactly if some element passes the other
-alike : (f g : Cell → Site) (x : ℕ) (cs ds : List Cell) → (1 ≤ times f x cs → 1 ≤ times g x ds) → (1 ≤ times g x ds → 1 ≤ times f x cs) → stands f x cs ≡ stands g x ds
+alike : (f g : Cell → Option ℕ) (x : ℕ) (cs ds : List Cell) → (1 ≤ times f x cs → 1 ≤ times g x ds) → (1 ≤ times g x ds → 1 ≤ times f x cs) → stands f x cs ≡ stands g x ds
 alike f g x cs ds u v = by_test (stands f x cs)
     (λ t. t ∙ sym (yes_any (λ d. is_site x (g d)) ds (u (any_yes (λ c. is_site x (f c)) cs t))))
     (λ t. by_test (stands g x ds)

@@ -17,8 +17,9 @@ use Rattle.sites.specs.declared.Which.{Which}
 use Rattle.sites.proofs.Counted.{sites_any}
 use Rattle.sealing.specs.Sealing.{numbers_on, stands_in, functions_with, repeated_numbers, repeated_or, numbering_from, numbering_answer}
 use Rattle.sealing.specs.Promises.{InOneFunction, FirstRepeat}
-use Rattle.sealing.specs.declared.Sealing.TheVariants.{Good, Repeated}
 use Rattle.sealing.proofs.Numbers.{by_list, FirstThat, only-first, first-only, only_none, none_only}
+use Rattle.std.specs.Prelude.{Ok, Err}
+use Rattle.sealing.specs.declared.SealingError.TheVariants.{Repeated}
 
 module _ (w : Which) where
   -- the test of a number: an earlier function has it
@@ -61,13 +62,13 @@ module _ (w : Which) where
 
   -- ---- good
 
-  numbering_apart : (a fs : List Function) → InOneFunction w a → numbering_from w a fs ≡ Good → InOneFunction w (a ++ fs)
+  numbering_apart : (a fs : List Function) → InOneFunction w a → numbering_from w a fs ≡ Ok tt → InOneFunction w (a ++ fs)
   numbering_apart a [] h e = rw (append-nil a) h
   numbering_apart a (f ∷ fs) h e = by_list (repeated_numbers w a f)
       (λ q. rw (append_assoc a (f ∷ []) fs) at (numbering_apart (a ++ f ∷ []) fs (repeats_none a f h q) (sym (turn a f fs q) ∙ e)))
-      (λ y ys q. let k : Repeated w (length a) y ≡ Good = sym (turn a f fs q) ∙ e in let z : ◌≡◌ {A = ℕ} 0 1 = cc in absurd (omega arith))
+      (λ y ys q. let k : Err (Repeated w (length a) y) ≡ Ok tt = sym (turn a f fs q) ∙ e in let z : ◌≡◌ {A = ℕ} 0 1 = cc in absurd (omega arith))
 
-  pub numbering_good : (fs : List Function) → (numbering_answer w fs ≡ Good) ↔ InOneFunction w fs
+  pub numbering_good : (fs : List Function) → (numbering_answer w fs ≡ Ok tt) ↔ InOneFunction w fs
   unfolding numbering_answer
   numbering_good fs = (
     λ e. numbering_apart [] fs (λ x. omega arith) e,
@@ -76,12 +77,12 @@ module _ (w : Which) where
 
   -- ---- a number that stands in an earlier function
 
-  found : (a fs : List Function) (v : Which) (p x : ℕ) → InOneFunction w a → numbering_from w a fs ≡ Repeated v p x → FirstRepeat w (a ++ fs) p x
+  found : (a fs : List Function) (v : Which) (p x : ℕ) → InOneFunction w a → numbering_from w a fs ≡ Err (Repeated v p x) → FirstRepeat w (a ++ fs) p x
   found a [] v p x h e = let z : ◌≡◌ {A = ℕ} 0 1 = cc in absurd (omega arith)
   found a (f ∷ fs) v p x h e = by_list (repeated_numbers w a f)
       (λ q. rw (append_assoc a (f ∷ []) fs) at (found (a ++ f ∷ []) fs v p x (repeats_none a f h q) (sym (turn a f fs q) ∙ e)))
       (λ y ys q.
-      let k : Repeated w (length a) y ≡ Repeated v p x = sym (turn a f fs q) ∙ e in
+      let k : Err (Repeated w (length a) y) ≡ Err (Repeated v p x) = sym (turn a f fs q) ∙ e in
       let i : length a ≡ p = cc in
       let j : y ≡ x = cc in
       let r : FirstThat (stood a) (numbers_on w f) x = rw j at (only-first (stood a) (numbers_on w f) y ys q) in
@@ -99,7 +100,7 @@ module _ (w : Which) where
         repeats = omega (arith, any_yes (stands_in w x) a r.pass, h x);
       })
 
-  pub numbering_repeats : (fs : List Function) (p x : ℕ) → (numbering_answer w fs ≡ Repeated w p x) ↔ FirstRepeat w fs p x
+  pub numbering_repeats : (fs : List Function) (p x : ℕ) → (numbering_answer w fs ≡ Err (Repeated w p x)) ↔ FirstRepeat w fs p x
   unfolding numbering_answer
   numbering_repeats fs p x = (
     λ e. found [] fs w p x (λ y. omega arith) e,
@@ -109,16 +110,16 @@ module _ (w : Which) where
         let q : repeated_numbers w a r.this ≡ x ∷ only (stood a) r.behind =
         ap (only (stood a)) r.numbers ∙ first-only (stood a) r.before r.behind x fail (yes_any (stands_in w x) a (omega (arith, r.repeats))) in
         ap (numbering_from w []) r.parts ∙ passed_over [] a (r.this ∷ r.later) r.apart ∙ turn a r.this r.later q
-        ∙ ap (λ (n : ℕ). Repeated w n x) (sym r.place),
+        ∙ ap (λ (n : ℕ). Err (Repeated w n x)) (sym r.place),
   )
 
   -- one or the other
-  shapes : {C : Type 0} (a fs : List Function) → (numbering_from w a fs ≡ Good → C) → ((p x : ℕ) → numbering_from w a fs ≡ Repeated w p x → C) → C
+  shapes : {C : Type 0} (a fs : List Function) → (numbering_from w a fs ≡ Ok tt → C) → ((p x : ℕ) → numbering_from w a fs ≡ Err (Repeated w p x) → C) → C
   shapes a [] g r = g refl
   shapes a (f ∷ fs) g r = by_list (repeated_numbers w a f)
       (λ q. shapes (a ++ f ∷ []) fs (λ e. g (turn a f fs q ∙ e)) (λ p x e. r p x (turn a f fs q ∙ e)))
       (λ y ys q. r (length a) y (turn a f fs q))
 
-  pub by_numbering : {C : Type 0} (fs : List Function) → (numbering_answer w fs ≡ Good → C) → ((p x : ℕ) → numbering_answer w fs ≡ Repeated w p x → C) → C
+  pub by_numbering : {C : Type 0} (fs : List Function) → (numbering_answer w fs ≡ Ok tt → C) → ((p x : ℕ) → numbering_answer w fs ≡ Err (Repeated w p x) → C) → C
   unfolding numbering_answer
   by_numbering fs g r = shapes [] fs g r

@@ -1,7 +1,6 @@
 -- Worked: the sealing check on images written out by hand from document 02 (W13), with number, position and detail; in how many functions a number
 -- stands; that the older operations accept what it refuses by 34 and 35; and images as sent and as rewritten.
-use Rattle.std.specs.Prelude.{◌≡◌, refl, Bool, true, List, [], ◌∷◌, ◌++◌, map, ℕ, length}
-use Rattle.std.proofs.Math.Option.{Option, none, some}
+use Rattle.std.specs.Prelude.{◌≡◌, refl, Bool, true, List, [], ◌∷◌, ◌++◌, map, ℕ, length, Option, None, Some}
 use Rattle.cells.specs.Assembler.{cell, Head, Label, LoadI32, Jmp, Ret, RetNothing, site, no_site, StoreVarSited, MakeRecord, Borrow, Write as WriteEvent, function}
 use Rattle.cells.specs.Cells.{cells}
 use Rattle.cells.specs.Check.{instruction_check, event_check, head_check}
@@ -74,10 +73,10 @@ pub record SealingCase : Type 0 where
   pub reply : Option Numbers
 
 abbrev pub good : List ℕ → SealingCase
-good s = record { image = s; reply = none }
+good s = record { image = s; reply = None }
 
 abbrev pub refuses : List ℕ → ℕ → ℕ → ℕ → SealingCase
-refuses s number position detail = record { image = s; reply = some (numbered number position detail) }
+refuses s number position detail = record { image = s; reply = Some (numbered number position detail) }
 
 abbrev pub cases : List SealingCase
 cases =
@@ -189,7 +188,7 @@ pub record OlderCase : Type 0 where
 
 -- refused by the sealing check; good by the site check, and rewritten
 abbrev pub older : List ℕ → Numbers → OlderCase
-older s x = record { image = s; sealing = some x; sites = none; default = true; fuller = true }
+older s x = record { image = s; sealing = Some x; sites = None; default = true; fuller = true }
 
 abbrev pub olders : List OlderCase
 olders =
@@ -215,15 +214,15 @@ pub record RewrittenCase : Type 0 where
 
 -- good as sent, and however it is rewritten
 abbrev pub keeps : List ℕ → RewrittenCase
-keeps s = record { image = s; sent = none; default = none; fuller = none; rested = none }
+keeps s = record { image = s; sent = None; default = None; fuller = None; rested = None }
 
 -- refused as sent and as rewritten, by the same numbers
 abbrev pub stays : List ℕ → Numbers → RewrittenCase
-stays s x = record { image = s; sent = some x; default = some x; fuller = some x; rested = some x }
+stays s x = record { image = s; sent = Some x; default = Some x; fuller = Some x; rested = Some x }
 
 -- refused as sent only
 abbrev pub mends : List ℕ → Numbers → RewrittenCase
-mends s x = record { image = s; sent = some x; default = none; fuller = none; rested = none }
+mends s x = record { image = s; sent = Some x; default = None; fuller = None; rested = None }
 
 abbrev pub rewrittens : List RewrittenCase
 rewrittens =

@@ -3,3 +3,4 @@ pub mod Promises
 pub mod Claim
 pub mod Steps
 pub mod Cases
+pub mod Answer

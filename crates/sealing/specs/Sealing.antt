@@ -1,18 +1,17 @@
 -- Promise: the sealing check (document 02, W13), "one numbering for a whole image": as the site check, then 34 and 35 over all functions together. An
 -- activation or write number is a site on a command, StoreVar's or MakeRecord's (sites/specs/Sites); those on events are the same ones
 -- (`EventsAlike`, Claim.antt).
-use Rattle.std.specs.Prelude.{ℕ, List, [], ◌∷◌, ◌++◌, Bool, length}
+use Rattle.std.specs.Prelude.{ℕ, List, [], ◌∷◌, ◌++◌, Bool, length, Ok, Err}
 use Rattle.cells.specs.Cells.{cells}
 use Rattle.cells.specs.Functions.{Function, functions}
 use Rattle.cells.specs.Lists.{any, tally, only}
-use Rattle.cells.specs.declared.refusal.Checked.{Checked}
-use Rattle.cells.specs.declared.refusal.Checked.TheVariants.{Good as Passed, Refused as RefusedBy}
 use Rattle.sites.specs.Sites.{site_of, stands, sites_on}
 use Rattle.sites.specs.declared.Which.{Which}
 use Rattle.sites.specs.declared.Which.TheVariants.{Activation, Write}
 use Rattle.image.specs.SiteCheck.{site_answer}
-use Rattle.sealing.specs.declared.Sealing.{Sealing}
-use Rattle.sealing.specs.declared.Sealing.TheVariants.{Good, Refused, Repeated}
+use Rattle.cells.specs.Checked.{Checked}
+use Rattle.sealing.specs.Answer.{Sealing}
+use Rattle.sealing.specs.declared.SealingError.TheVariants.{Refused, Repeated}
 
 -- ---- numbers
 
@@ -37,12 +36,12 @@ repeated_numbers w earlier f = only (λ (x : ℕ). any (stands_in w x) earlier) 
 -- said of the functions behind it
 abbrev pub repeated_or : Which → ℕ → List ℕ → Sealing → Sealing
 repeated_or w position [] behind = behind
-repeated_or w position (x ∷ xs) behind = Repeated w position x
+repeated_or w position (x ∷ xs) behind = Err (Repeated w position x)
 
 -- the functions fs in order, each with those before it, which are `earlier` at the start. A function's place is how many stand before it, whether
 -- they have numbers or not
 abbrev pub numbering_from : Which → List Function → List Function → Sealing
-numbering_from w earlier [] = Good
+numbering_from w earlier [] = Ok tt
 numbering_from w earlier (f ∷ fs) = repeated_or w (length earlier) (repeated_numbers w earlier f) (numbering_from w (earlier ++ f ∷ []) fs)
 
 unfoldable pub numbering_answer : Which → List Function → Sealing
@@ -52,14 +51,13 @@ numbering_answer w fs = numbering_from w [] fs
 
 -- the first of two answers that refuses
 abbrev pub or_next : Sealing → Sealing → Sealing
-or_next Good next = next
-or_next (Refused x) next = Refused x
-or_next (Repeated w position x) next = Repeated w position x
+or_next (Ok tt) next = next
+or_next (Err x) next = Err x
 
 -- "It refuses as the site check"
 abbrev pub as_checked : Checked → Sealing
-as_checked Passed = Good
-as_checked (RefusedBy x) = Refused x
+as_checked (Ok tt) = Ok tt
+as_checked (Err x) = Err (Refused x)
 
 -- the site check of the whole image first; 35 only where no function has 34
 unfoldable pub sealing_answer : List ℕ → Sealing

@@ -6,24 +6,23 @@ use Prim.Native.Nat.{ℕ, ◌≤◌}
 use Rattle.cells.specs.Cells.{Cell}
 use Rattle.cells.specs.Lists.{All}
 use Rattle.sites.specs.Sites.{is_store_var, is_write, site_of, event_site, times}
-use Rattle.sites.specs.declared.Site.{Site}
-use Rattle.sites.specs.declared.Site.TheVariants.{Absent, At}
 use Rattle.sites.specs.declared.Which.TheVariants.{Activation, Write}
+use Rattle.std.specs.Prelude.{Option, Some, None}
 
 -- the write site of a StoreVar
-abbrev pub store_site : Cell → Site
-store_site c = cond (is_store_var c) (site_of Write c) Absent
+abbrev pub store_site : Cell → Option ℕ
+store_site c = cond (is_store_var c) (site_of Write c) None
 
 -- a site is there
-abbrev pub There : Site → Type 0
-There s = (x : ℕ) × (s ≡ At x)
+abbrev pub There : Option ℕ → Type 0
+There s = (x : ℕ) × (s ≡ Some x)
 
 -- a Write event has no activation site; a Borrow event has no write site; a Write event has one
 abbrev pub BorrowsAlone : Cell → Type 0
-BorrowsAlone e = is_write e ≡ true → event_site Activation e ≡ Absent
+BorrowsAlone e = is_write e ≡ true → event_site Activation e ≡ None
 
 abbrev pub WritesAlone : Cell → Type 0
-WritesAlone e = is_write e ≡ false → event_site Write e ≡ Absent
+WritesAlone e = is_write e ≡ false → event_site Write e ≡ None
 
 abbrev pub WriteSited : Cell → Type 0
 WriteSited e = is_write e ≡ true → There (event_site Write e)

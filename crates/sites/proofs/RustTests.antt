@@ -7,31 +7,29 @@ use Rattle.cells.specs.Answers.{scan}
 use Rattle.cells.specs.Cells.{Cell}
 use Rattle.cells.specs.Lists.{any, tally}
 use Rattle.cells.specs.declared.refusal.Refusal.TheVariants.{ActivationSiteOnWrite, ActivationSiteClaimedTwice}
-use Rattle.cells.specs.declared.refusal.Checked.{Checked}
-use Rattle.cells.specs.declared.refusal.Checked.TheVariants.{Good, Refused}
 use Rattle.sites.specs.Sites.{is_write, site_of, event_site, is_site, stands, has_site}
-use Rattle.sites.specs.declared.Site.{Site}
-use Rattle.sites.specs.declared.Site.TheVariants.{Absent, At}
 use Rattle.sites.specs.declared.Which.TheVariants.{Activation, Write}
+use Rattle.std.specs.Prelude.{Option, Some, None, Ok, Err}
+use Rattle.cells.specs.Checked.{Checked}
 
 -- a site is there, and stands on one of the cells; is there, and stands on none
-abbrev pub met : (Cell → Site) → List Cell → Site → Bool
-met f cs Absent = false
-met f cs (At x) = stands f x cs
+abbrev pub met : (Cell → Option ℕ) → List Cell → Option ℕ → Bool
+met f cs None = false
+met f cs (Some x) = stands f x cs
 
-abbrev pub unmet : (Cell → Site) → List Cell → Site → Bool
-unmet f cs Absent = false
-unmet f cs (At x) = not (stands f x cs)
+abbrev pub unmet : (Cell → Option ℕ) → List Cell → Option ℕ → Bool
+unmet f cs None = false
+unmet f cs (Some x) = not (stands f x cs)
 
 -- 13: the Rust looks among the Borrow events before
 abbrev pub is_borrow_of : ℕ → Cell → Bool
 is_borrow_of x e = not (is_write e) && is_site x (event_site Activation e)
 
-abbrev pub judge_borrow : ℕ → List Cell → Bool → Site → Checked
-judge_borrow position before write Absent = Good
-judge_borrow position before write (At x) =
-    cond write (Refused (ActivationSiteOnWrite position x))
-    (cond (any (is_borrow_of x) before) (Refused (ActivationSiteClaimedTwice position x)) Good)
+abbrev pub judge_borrow : ℕ → List Cell → Bool → Option ℕ → Checked
+judge_borrow position before write None = Ok tt
+judge_borrow position before write (Some x) =
+    cond write (Err (ActivationSiteOnWrite position x))
+    (cond (any (is_borrow_of x) before) (Err (ActivationSiteClaimedTwice position x)) (Ok tt))
 
 abbrev pub rust_activation : ℕ → List Cell → Checked
 rust_activation position es =

@@ -5,7 +5,6 @@ use mathlib.Core.List.{List}
 use Prim.Native.Nat.{ℕ}
 use Rattle.cells.specs.Cells.{Cell}
 use Rattle.cells.specs.Lists.{tally, only}
-use Rattle.cells.specs.declared.refusal.Checked.TheVariants.{Good}
 use Rattle.cells.proofs.Facts.{by_test}
 use Rattle.cells.proofs.Lists.{all_of, tally-only}
 use Rattle.sites.specs.Sites.{is_store_var, is_make_record, site_of, is_site, times, write_capable}
@@ -14,6 +13,7 @@ use Rattle.sites.proofs.Fit.{store_site, Paired, Claimed}
 use Rattle.sites.specs.declared.Which.{Which}
 use Rattle.sites.specs.declared.Which.TheVariants.{Activation, Write}
 use Rattle.sites.proofs.SitesFit.{activation_sites, write_sites, site_check_lem}
+use Rattle.std.specs.Prelude.{Ok}
 
 -- a test that only such cells pass
 pub tally-same : (f : Cell → Bool) → ((c : Cell) → f c ≡ true → write_capable c ≡ true) → (p q : List Cell) → only write_capable p ≡ only write_capable q → tally f p ≡ tally f q
@@ -58,11 +58,11 @@ module _ (cs ds es : List Cell) (e : only write_capable ds ≡ only write_capabl
         known = λ x l. rw (sites_same Write x) (h.known x l);
       }
 
-  pub same_passes : (position : ℕ) → site_check position cs es ≡ Good → site_check position ds es ≡ Good
+  pub same_passes : (position : ℕ) → site_check position cs es ≡ Ok tt → site_check position ds es ≡ Ok tt
   same_passes position g = let h = (site_check_lem position cs es).0 g in (site_check_lem position ds es).1 (same_paired h.0, same_claimed h.1)
 
-  pub same_activation : (position : ℕ) → validate_activation_sites position cs es ≡ Good → validate_activation_sites position ds es ≡ Good
+  pub same_activation : (position : ℕ) → validate_activation_sites position cs es ≡ Ok tt → validate_activation_sites position ds es ≡ Ok tt
   same_activation position g = (activation_sites position ds es).1 (same_paired ((activation_sites position cs es).0 g))
 
-  pub same_write : (position : ℕ) → validate_write_sites position cs es ≡ Good → validate_write_sites position ds es ≡ Good
+  pub same_write : (position : ℕ) → validate_write_sites position cs es ≡ Ok tt → validate_write_sites position ds es ≡ Ok tt
   same_write position g = (write_sites position ds es).1 (same_claimed ((write_sites position cs es).0 g))

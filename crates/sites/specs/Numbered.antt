@@ -1,29 +1,25 @@
 -- Inner: what the loops of the code run on: the sites on a part's cells as a list of numbers.
-use Rattle.std.specs.Prelude.{◌≡◌, Bool, false, cond, List, [], ℕ, ◌/◌, ◌≤◌, eqb, length, take}
+use Rattle.std.specs.Prelude.{◌≡◌, Bool, false, cond, List, [], ℕ, ◌/◌, ◌≤◌, eqb, length, Option, Some, None, Ok, Err}
 use Rattle.cells.specs.Answers.{or_else, scan}
 use Rattle.cells.specs.Cells.{Cell, cells, over}
 use Rattle.cells.specs.Check.{max_instructions, max_events}
 use Rattle.cells.specs.Lists.{any, tally}
 use Rattle.cells.specs.declared.refusal.Refusal.{Refusal}
 use Rattle.cells.specs.declared.refusal.Refusal.TheVariants.{ActivationSiteOnWrite, ActivationSiteClaimedTwice}
-use Rattle.cells.specs.declared.refusal.Checked.{Checked}
-use Rattle.cells.specs.declared.refusal.Checked.TheVariants.{Good, Refused}
 use Rattle.sites.specs.Sites.{is_write, site_by, stands, sites_on}
 use Rattle.sites.specs.Validators.{repeated, repeat_answer, activation_answer, rule_answer, standing, validate_activation_sites}
 use Rattle.cells.specs.declared.walk.Part.{Part}
 use Rattle.cells.specs.declared.walk.Part.TheVariants.{Code, Events}
 use Rattle.sites.specs.declared.Rule.{Rule}
 use Rattle.sites.specs.declared.Rule.TheVariants.{StoreVarClaimed, BorrowKnown, EventKind, WriteClaimed, WriteKnown}
-use Rattle.sites.specs.declared.Site.{Site}
-use Rattle.sites.specs.declared.Site.TheVariants.{Absent, At}
 use Rattle.sites.specs.declared.Which.{Which}
 use Rattle.sites.specs.declared.Which.TheVariants.{Activation, Write}
+use Rattle.cells.specs.Checked.{Checked}
 
--- the first n of a list are the sites on cells
-pub record SitesListed (p : Part) (w : Which) (cs : List Cell) (list : List ℕ) (n : ℕ) : Type 0 where
-  pub few : n ≤ max_instructions
-  pub room : n ≤ length list
-  pub same : take n list ≡ sites_on (site_by p w) cs
+-- a list has the sites on cells
+pub record SitesListed (p : Part) (w : Which) (cs : List Cell) (list : List ℕ) : Type 0 where
+  pub few : length list ≤ max_instructions
+  pub same : list ≡ sites_on (site_by p w) cs
 
 -- two lists lent for the sites of a function's parts
 abbrev pub Lent : List ℕ → List ℕ → List ℕ → List ℕ → Type 0
@@ -37,9 +33,9 @@ one_of x xs = any (λ (y : ℕ). eqb y x) xs
 abbrev pub count_in : List ℕ → ℕ → ℕ
 count_in xs x = tally (λ (y : ℕ). eqb y x) xs
 
--- where a search for x among the first n of a list ends: behind them or, where it is none of them, at once
-abbrev pub search_end : List ℕ → ℕ → ℕ → ℕ
-search_end list n x = cond (one_of x (take n list)) n 0
+-- where a search for x in a list ends: behind it or, where it is none of its numbers, at once
+abbrev pub search_end : List ℕ → ℕ → ℕ
+search_end list x = cond (one_of x list) (length list) 0
 
 -- 11 and 21 of commands, 12 and 13 of events, as one: a site on an event that may not have one, or one that stands before
 abbrev pub barred : Part → Cell → Bool
@@ -50,10 +46,10 @@ abbrev pub repeated_on : Part → Which → ℕ → ℕ → Refusal
 repeated_on Code w position x = repeated w position x
 repeated_on Events w position x = ActivationSiteClaimedTwice position x
 
-abbrev pub judge_fresh : Part → Which → ℕ → List Cell → Bool → Site → Checked
-judge_fresh p w position before b Absent = Good
-judge_fresh p w position before b (At x) =
-    cond b (Refused (ActivationSiteOnWrite position x)) (cond (stands (site_by p w) x before) (Refused (repeated_on p w position x)) Good)
+abbrev pub judge_fresh : Part → Which → ℕ → List Cell → Bool → Option ℕ → Checked
+judge_fresh p w position before b None = Ok tt
+judge_fresh p w position before b (Some x) =
+    cond b (Err (ActivationSiteOnWrite position x)) (cond (stands (site_by p w) x before) (Err (repeated_on p w position x)) (Ok tt))
 
 abbrev pub judge_repeat : Part → Which → ℕ → List Cell → Cell → Checked
 judge_repeat p w position before c = judge_fresh p w position before (barred p c) (site_by p w c)
@@ -88,8 +84,8 @@ list_over p w s list = over (sites_on (site_by p w) (cells s)) list
 
 -- after both validators: the second writes only if the first passes
 abbrev pub list_after : Part → List ℕ → Checked → List ℕ → List ℕ
-list_after p s Good list = list_over p Write s (list_over p Activation s list)
-list_after p s (Refused x) list = list_over p Activation s list
+list_after p s (Ok tt) list = list_over p Write s (list_over p Activation s list)
+list_after p s (Err x) list = list_over p Activation s list
 
 pub record ListsAfter (position : ℕ) (code evs sites claims sites' claims' : List ℕ) : Type 0 where
   pub on_commands : sites' ≡ list_after Code code (validate_activation_sites position (cells code) (cells evs)) sites

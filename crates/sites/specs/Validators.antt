@@ -1,21 +1,18 @@
 -- Promise: the two validators of the function at a position (document 01, 'Site check' and module 3), from its instruction cells cs and its event cells
 -- es. Each refusal is the first in the document's order; `scan` goes over the cells of a part and judges each with those before it.
-use Rattle.std.specs.Prelude.{ℕ, List, [], Bool, cond, ◌&&◌, not, eqb}
+use Rattle.std.specs.Prelude.{ℕ, List, [], Bool, cond, ◌&&◌, not, eqb, Option, Some, None, Ok, Err}
 use Rattle.cells.specs.Answers.{or_else, scan}
 use Rattle.cells.specs.Cells.{Cell}
 use Rattle.cells.specs.declared.refusal.Refusal.{Refusal}
 use Rattle.cells.specs.declared.refusal.Refusal.TheVariants.{ActivationSiteRepeated, ActivationSiteOnWrite, ActivationSiteClaimedTwice, ActivationSitesDiffer, WriteSiteRepeated, WriteSiteOnBorrow, WriteWithoutSite, WriteSiteUnclaimed, StoreVarSiteClaimedTwice, WriteSiteUnknown}
-use Rattle.cells.specs.declared.refusal.Checked.{Checked}
-use Rattle.cells.specs.declared.refusal.Checked.TheVariants.{Good, Refused}
 use Rattle.sites.specs.Sites.{is_store_var, is_write, site_of, event_site, site_by, stands, times}
-use Rattle.sites.specs.declared.Site.{Site}
-use Rattle.sites.specs.declared.Site.TheVariants.{Absent, At}
 use Rattle.sites.specs.declared.Which.{Which}
 use Rattle.sites.specs.declared.Which.TheVariants.{Activation, Write}
 use Rattle.cells.specs.declared.walk.Part.{Part}
 use Rattle.cells.specs.declared.walk.Part.TheVariants.{Code, Events}
 use Rattle.sites.specs.declared.Rule.{Rule}
 use Rattle.sites.specs.declared.Rule.TheVariants.{StoreVarClaimed, BorrowKnown, EventKind, WriteClaimed, WriteKnown}
+use Rattle.cells.specs.Checked.{Checked}
 
 -- ---- 11 an activation site on two StoreVars, 21 a write site on two commands
 
@@ -24,9 +21,9 @@ repeated Activation position x = ActivationSiteRepeated position x
 repeated Write position x = WriteSiteRepeated position x
 
 -- a command's site, with the commands before it
-abbrev pub judge_site : Which → ℕ → List Cell → Site → Checked
-judge_site w position before Absent = Good
-judge_site w position before (At x) = cond (stands (site_of w) x before) (Refused (repeated w position x)) Good
+abbrev pub judge_site : Which → ℕ → List Cell → Option ℕ → Checked
+judge_site w position before None = Ok tt
+judge_site w position before (Some x) = cond (stands (site_of w) x before) (Err (repeated w position x)) (Ok tt)
 
 abbrev pub judge_command : Which → ℕ → List Cell → Cell → Checked
 judge_command w position before c = judge_site w position before (site_of w c)
@@ -37,11 +34,11 @@ repeat_answer w position cs = scan (judge_command w position) [] cs
 -- ---- 12 a Write event with an activation site, 13 a second Borrow event for one; the first such event decides. Of the events before a judged
 -- one only Borrow events have an activation site, since a Write event with one is refused
 
-abbrev pub judge_activation : ℕ → List Cell → Bool → Site → Checked
-judge_activation position before write Absent = Good
-judge_activation position before write (At x) =
-    cond write (Refused (ActivationSiteOnWrite position x))
-    (cond (stands (event_site Activation) x before) (Refused (ActivationSiteClaimedTwice position x)) Good)
+abbrev pub judge_activation : ℕ → List Cell → Bool → Option ℕ → Checked
+judge_activation position before write None = Ok tt
+judge_activation position before write (Some x) =
+    cond write (Err (ActivationSiteOnWrite position x))
+    (cond (stands (event_site Activation) x before) (Err (ActivationSiteClaimedTwice position x)) (Ok tt))
 
 abbrev pub judge_event : ℕ → List Cell → Cell → Checked
 judge_event position before e = judge_activation position before (is_write e) (event_site Activation e)
@@ -56,21 +53,21 @@ abbrev pub unmatched : Which → ℕ → ℕ → Refusal
 unmatched Activation position x = ActivationSitesDiffer position
 unmatched Write position x = WriteSiteUnknown position x
 
-abbrev pub judge_met : Which → ℕ → (ℕ → ℕ) → Site → Checked
-judge_met w position count Absent = Good
-judge_met w position count (At x) = cond (eqb (count x) 0) (Refused (unmatched w position x)) Good
+abbrev pub judge_met : Which → ℕ → (ℕ → ℕ) → Option ℕ → Checked
+judge_met w position count None = Ok tt
+judge_met w position count (Some x) = cond (eqb (count x) 0) (Err (unmatched w position x)) (Ok tt)
 
 -- 22 a Borrow event with a write site, 23 a Write event without
-abbrev pub judge_kind : ℕ → Bool → Site → Checked
-judge_kind position write Absent = cond write (Refused (WriteWithoutSite position)) Good
-judge_kind position write (At x) = cond write Good (Refused (WriteSiteOnBorrow position x))
+abbrev pub judge_kind : ℕ → Bool → Option ℕ → Checked
+judge_kind position write None = cond write (Err (WriteWithoutSite position)) (Ok tt)
+judge_kind position write (Some x) = cond write (Ok tt) (Err (WriteSiteOnBorrow position x))
 
 -- 24 a command's write site with no event, 25 a StoreVar's with more than one
-abbrev pub judge_claim : ℕ → (ℕ → ℕ) → Bool → Site → Checked
-judge_claim position count store Absent = Good
-judge_claim position count store (At x) =
-    cond (eqb (count x) 0) (Refused (WriteSiteUnclaimed position x))
-    (cond (store && not (eqb (count x) 1)) (Refused (StoreVarSiteClaimedTwice position x)) Good)
+abbrev pub judge_claim : ℕ → (ℕ → ℕ) → Bool → Option ℕ → Checked
+judge_claim position count store None = Ok tt
+judge_claim position count store (Some x) =
+    cond (eqb (count x) 0) (Err (WriteSiteUnclaimed position x))
+    (cond (store && not (eqb (count x) 1)) (Err (StoreVarSiteClaimedTwice position x)) (Ok tt))
 
 unfoldable pub judge_by : Rule → ℕ → (ℕ → ℕ) → Cell → Checked
 judge_by StoreVarClaimed position count c = judge_met Activation position count (site_by Code Activation c)

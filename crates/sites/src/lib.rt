@@ -6,7 +6,6 @@ pub mod repeats;
 pub mod rules;
 
 ghost use Rattle.std.specs.Prelude.{◌≡◌, [], ◌+◌, ◌*◌, ◌/◌, ◌≤◌, length, get_or};
-ghost use Rattle.cells.specs.Bytes.{byte};
 ghost use Rattle.cells.specs.Cells.{cells};
 ghost use Rattle.cells.specs.Check.{max_instructions, max_events};
 ghost use Rattle.sites.specs.Sites.{site_at, site_of, event_site, site_by};
@@ -15,15 +14,8 @@ ghost use Rattle.sites.specs.Validators.{validate_activation_sites, validate_wri
 
 use cells::check::{MAX_EVENTS, MAX_INSTRUCTIONS};
 use cells::read;
-use cells::refusal::Checked;
+use cells::refusal::Refusal;
 use cells::walk::Part;
-
-// A site: a presence byte and 4 bytes.
-#[derive(Clone, Copy)]
-pub enum Site {
-    Absent,
-    At(u32),
-}
 
 // Which of the two sites.
 #[derive(Clone, Copy)]
@@ -60,7 +52,7 @@ pub fn validate_activation_sites(
     position: usize,
     sites: &mut [u32],
     claims: &mut [u32],
-) -> Checked
+) -> Result<(), Refusal>
     requires { Lent code.now events.now sites.old claims.old }
     ensures value { result ≡ validate_activation_sites position (cells code.now) (cells events.now) }
     ensures sites_after { (sites.new ≡ list_over Part.Code Which.Activation code.now sites.old) × (claims.new ≡ list_over Part.Events Which.Activation events.now claims.old) }
@@ -75,7 +67,7 @@ pub fn validate_write_sites(
     position: usize,
     sites: &mut [u32],
     claims: &mut [u32],
-) -> Checked
+) -> Result<(), Refusal>
     requires { Lent code.now events.now sites.old claims.old }
     ensures value { result ≡ validate_write_sites position (cells code.now) (cells events.now) }
     ensures sites_after { (sites.new ≡ list_over Part.Code Which.Write code.now sites.old) × (claims.new ≡ list_over Part.Events Which.Write events.now claims.old) }
@@ -83,7 +75,7 @@ pub fn validate_write_sites(
     validate(code, events, Which::Write, position, sites, claims)
 }
 
-// Either of the two.
+// Either of the two. (The documents name each; both keep a function's two parts, its position and the lists lent.)
 fn validate(
     code: &[u8],
     events: &[u8],
@@ -91,56 +83,45 @@ fn validate(
     position: usize,
     sites: &mut [u32],
     claims: &mut [u32],
-) -> Checked
+) -> Result<(), Refusal>
     requires { Lent code.now events.now sites.old claims.old }
     ensures value { result ≡ validate_sites w position (cells code.now) (cells events.now) }
     ensures sites_after { (sites.new ≡ list_over Part.Code w code.now sites.old) × (claims.new ≡ list_over Part.Events w events.now claims.old) }
 {
     let k = list::collect(code, Part::Code, w, sites);
     let m = list::collect(events, Part::Events, w, claims);
-    check_listed(code, sites, k, events, claims, m, w, position)
+    check_listed(code, &sites[..k], events, &claims[..m], w, position)
 }
 
-// By the sites on the commands, the first k of a list, and on the events, the first m of another.
+// By the sites on the commands and on the events.
 fn check_listed(
     code: &[u8],
     sites: &[u32],
-    k: usize,
     events: &[u8],
     claims: &[u32],
-    m: usize,
     w: Which,
     position: usize,
-) -> Checked
-    requires { SitesListed Part.Code w (cells code.now) sites.now k × SitesListed Part.Events w (cells events.now) claims.now m }
+) -> Result<(), Refusal>
+    requires { SitesListed Part.Code w (cells code.now) sites.now × SitesListed Part.Events w (cells events.now) claims.now }
     ensures { result ≡ validate_sites w position (cells code.now) (cells events.now) }
 {
-    let repeated = repeats::check_repeat(code, Part::Code, w, sites, k, position);
-    let Checked::Good = repeated else {
-        return repeated;
-    };
-    let unfit = check_events(events, claims, m, w, position);
-    let Checked::Good = unfit else {
-        return unfit;
-    };
-    if k + m == 0 {
-        return Checked::Good;
+    repeats::check_repeat(code, Part::Code, w, sites, position)?;
+    check_events(events, claims, w, position)?;
+    if sites.is_empty() && claims.is_empty() {
+        return Ok(());
     }
-    let unclaimed = rules::check_rule(code, claims, m, claimed_rule(w), position);
-    let Checked::Good = unclaimed else {
-        return unclaimed;
-    };
-    rules::check_rule(events, sites, k, known_rule(w), position)
+    rules::check_rule(code, claims, claimed_rule(w), position)?;
+    rules::check_rule(events, sites, known_rule(w), position)
 }
 
 // The events by themselves: 12 and 13, or 22 and 23.
-fn check_events(events: &[u8], claims: &[u32], m: usize, w: Which, position: usize) -> Checked
-    requires { SitesListed Part.Events w (cells events.now) claims.now m }
+fn check_events(events: &[u8], claims: &[u32], w: Which, position: usize) -> Result<(), Refusal>
+    requires { SitesListed Part.Events w (cells events.now) claims.now }
     ensures { result ≡ events_answer w position (cells events.now) }
 {
     match w {
-        Which::Activation => repeats::check_repeat(events, Part::Events, w, claims, m, position),
-        Which::Write => rules::check_rule(events, claims, m, Rule::EventKind, position),
+        Which::Activation => repeats::check_repeat(events, Part::Events, w, claims, position),
+        Which::Write => rules::check_rule(events, claims, Rule::EventKind, position),
     }
 }
 
@@ -164,21 +145,23 @@ fn known_rule(w: Which) -> Rule
 }
 
 // Both validators; a function with no cells passes.
-pub fn check_sites(code: &[u8], events: &[u8], position: usize) -> Checked
+pub fn check_sites(code: &[u8], events: &[u8], position: usize) -> Result<(), Refusal>
     requires { (length code.now / 16 ≤ max_instructions) × (length events.now / 16 ≤ max_events) }
     ensures { result ≡ site_check position (cells code.now) (cells events.now) }
 {
-    if (code.len() < read::CELL) & (events.len() < read::CELL) {
-        return Checked::Good;
+    if code.len() < read::CELL && events.len() < read::CELL {
+        return Ok(());
     }
-    if (code.len() / read::CELL <= FEW) & (events.len() / read::CELL <= FEW) {
-        let mut sites = [0u32; FEW];
-        let mut claims = [0u32; FEW];
-        return check_by(code, events, position, &mut sites, &mut claims);
+    if code.len() / read::CELL <= FEW && events.len() / read::CELL <= FEW {
+        return check_by(code, events, position, &mut [0; FEW], &mut [0; FEW]);
     }
-    let mut sites = [0u32; MAX_INSTRUCTIONS];
-    let mut claims = [0u32; MAX_EVENTS];
-    check_by(code, events, position, &mut sites, &mut claims)
+    check_by(
+        code,
+        events,
+        position,
+        &mut [0; MAX_INSTRUCTIONS],
+        &mut [0; MAX_EVENTS],
+    )
 }
 
 // With two lists for the sites.
@@ -188,32 +171,30 @@ fn check_by(
     position: usize,
     sites: &mut [u32],
     claims: &mut [u32],
-) -> Checked
+) -> Result<(), Refusal>
     requires { Lent code.now events.now sites.old claims.old }
     ensures value { result ≡ site_check position (cells code.now) (cells events.now) }
     ensures lists_after { ListsAfter position code.now events.now sites.old claims.old sites.new claims.new }
 {
-    let activation = validate_activation_sites(code, events, position, sites, claims);
-    let Checked::Good = activation else {
-        return activation;
-    };
+    validate_activation_sites(code, events, position, sites, claims)?;
     validate_write_sites(code, events, position, sites, claims)
 }
 
 // The site at an offset, where its presence byte stands.
-pub fn site_at(c: &[u8], at: usize) -> Site
+pub fn site_at(c: &[u8], at: usize) -> Option<u32>
     requires { at + 5 ≤ length c.now }
     ensures { result ≡ site_at c.now at }
 {
     if c[at] == 1 {
-        Site::At(read::word(c, at + 1) as u32)
+        Some(read::word(c, at + 1) as u32)
     } else {
-        Site::Absent
+        None
     }
 }
 
 // A command's site.
-pub fn site_of(c: &[u8], w: Which) -> Site
+#[tactic(auto, unfolding(crate::specs::Sites::site_of))]
+pub fn site_of(c: &[u8], w: Which) -> Option<u32>
     requires { length c.now ≡ 16 }
     ensures { result ≡ site_of w c.now }
 {
@@ -223,7 +204,7 @@ pub fn site_of(c: &[u8], w: Which) -> Site
             if command == STORE_VAR {
                 site_at(c, 5)
             } else {
-                Site::Absent
+                None
             }
         }
         Which::Write => {
@@ -232,14 +213,15 @@ pub fn site_of(c: &[u8], w: Which) -> Site
             } else if command == MAKE_RECORD {
                 site_at(c, 7)
             } else {
-                Site::Absent
+                None
             }
         }
     }
 }
 
 // An event's site.
-pub fn event_site(c: &[u8], w: Which) -> Site
+#[tactic(auto, unfolding(crate::specs::Sites::event_site))]
+pub fn event_site(c: &[u8], w: Which) -> Option<u32>
     requires { length c.now ≡ 16 }
     ensures { result ≡ event_site w c.now }
 {
@@ -249,30 +231,23 @@ pub fn event_site(c: &[u8], w: Which) -> Site
     }
 }
 
-// The site of the cell at a position of a part.
-pub fn site_by(s: &[u8], p: Part, w: Which, i: usize) -> Site
-    requires { 16 * i + 16 ≤ length s.now }
-    ensures { result ≡ site_by p w (get_or (cells s.now) i []) }
+// A cell's site, by the part that it is in.
+#[tactic(auto, unfolding(crate::specs::Sites::site_by))]
+pub fn cell_site(c: &[u8], p: Part, w: Which) -> Option<u32>
+    requires { length c.now ≡ 16 }
+    ensures { result ≡ site_by p w c.now }
 {
-    let a = read::CELL * i;
-    let e = a + read::CELL;
     match p {
-        Part::Code => site_of(&s[a..e], w),
-        Part::Events => event_site(&s[a..e], w),
+        Part::Code => site_of(c, w),
+        Part::Events => event_site(c, w),
     }
 }
 
-// The first byte of the cell at a position: a command, or an event's kind.
-pub fn first_byte(s: &[u8], i: usize) -> u8
+// The site of the cell at a position of a part.
+pub fn site_by(s: &[u8], p: Part, w: Which, i: usize) -> Option<u32>
     requires { 16 * i + 16 ≤ length s.now }
-    ensures { result ≡ byte (get_or (cells s.now) i []) 0 }
+    ensures { result ≡ site_by p w (get_or (cells s.now) i []) }
 {
-    let a = read::CELL * i;
-    s[a]
-}
-
-pub fn wide(x: u32) -> usize
-    ensures { result ≡ x }
-{
-    x as usize
+    let at = read::CELL * i;
+    cell_site(&s[at..at + read::CELL], p, w)
 }

@@ -1,86 +1,77 @@
 // 14 and 22 to 26: each cell of a part by itself, with the sites on the cells of the other part.
-ghost use Rattle.std.specs.Prelude.{◌≡◌, [], ◌+◌, ◌*◌, ◌≤◌, length, get_or, take};
+ghost use Rattle.std.specs.Prelude.{◌≡◌, ◌≤◌, length};
 ghost use Rattle.cells.specs.Check.{max_instructions};
 ghost use Rattle.cells.specs.Cells.{cells};
 ghost use Rattle.sites.specs.Numbered.{count_in};
 ghost use Rattle.sites.specs.Validators.{unmatched as «unmatched_of», judge_met, judge_kind, judge_claim, judge_by, rule_answer};
 
-use crate::{Rule, Site, Which, list};
+use crate::{Rule, Which, list};
 use cells::read;
-use cells::refusal::{Checked, Refusal};
+use cells::refusal::Refusal;
 use cells::walk::Part;
 
-// The first cell of a part that a rule refuses; the first k of a list are the sites on the other part's cells.
-pub fn check_rule(part: &[u8], sites: &[u32], k: usize, rule: Rule, position: usize) -> Checked
-    requires { (k ≤ length sites.now) × (k ≤ max_instructions) }
-    ensures { result ≡ rule_answer rule position (count_in (take k sites.now)) (cells part.now) }
+// The first cell of a part that a rule refuses, by the sites on the other part's cells.
+pub fn check_rule(part: &[u8], sites: &[u32], rule: Rule, position: usize) -> Result<(), Refusal>
+    requires { length sites.now ≤ max_instructions }
+    ensures { result ≡ rule_answer rule position (count_in sites.now) (cells part.now) }
 {
-    let n = part.len() / read::CELL;
-    let mut i = 0;
-    while i < n {
-        let r = judge(part, sites, k, rule, i, position);
-        let Checked::Good = r else {
-            return r;
-        };
-        i += 1;
+    for cell in part.chunks_exact(read::CELL) {
+        judge(cell, sites, rule, position)?;
     }
-    Checked::Good
+    Ok(())
 }
 
-// The cell at a position by a rule.
-fn judge(part: &[u8], sites: &[u32], k: usize, rule: Rule, i: usize, position: usize) -> Checked
-    requires { (16 * i + 16 ≤ length part.now) × (k ≤ length sites.now) × (k ≤ max_instructions) }
-    ensures { result ≡ judge_by rule position (count_in (take k sites.now)) (get_or (cells part.now) i []) }
+// A cell by a rule. (An enum and no closure: the definitions of the validators name the rules.)
+#[tactic(auto, unfolding(crate::specs::Validators::judge_by))]
+fn judge(cell: &[u8], sites: &[u32], rule: Rule, position: usize) -> Result<(), Refusal>
+    requires { (length cell.now ≡ 16) × (length sites.now ≤ max_instructions) }
+    ensures { result ≡ judge_by rule position (count_in sites.now) cell.now }
 {
     match rule {
         Rule::StoreVarClaimed => judge_met(
             sites,
-            k,
             Which::Activation,
-            crate::site_by(part, Part::Code, Which::Activation, i),
+            crate::cell_site(cell, Part::Code, Which::Activation),
             position,
         ),
         Rule::BorrowKnown => judge_met(
             sites,
-            k,
             Which::Activation,
-            crate::site_by(part, Part::Events, Which::Activation, i),
+            crate::cell_site(cell, Part::Events, Which::Activation),
             position,
         ),
         Rule::EventKind => judge_kind(
-            crate::first_byte(part, i) == crate::WRITE,
-            crate::site_by(part, Part::Events, Which::Write, i),
+            cell[0] == crate::WRITE,
+            crate::cell_site(cell, Part::Events, Which::Write),
             position,
         ),
         Rule::WriteClaimed => judge_claim(
             sites,
-            k,
-            crate::first_byte(part, i) == crate::STORE_VAR,
-            crate::site_by(part, Part::Code, Which::Write, i),
+            cell[0] == crate::STORE_VAR,
+            crate::cell_site(cell, Part::Code, Which::Write),
             position,
         ),
         Rule::WriteKnown => judge_met(
             sites,
-            k,
             Which::Write,
-            crate::site_by(part, Part::Events, Which::Write, i),
+            crate::cell_site(cell, Part::Events, Which::Write),
             position,
         ),
     }
 }
 
 // 14 and 26: a site that stands on no cell of the other part.
-fn judge_met(sites: &[u32], k: usize, w: Which, s: Site, position: usize) -> Checked
-    requires { (k ≤ length sites.now) × (k ≤ max_instructions) }
-    ensures { result ≡ judge_met w position (count_in (take k sites.now)) s }
+fn judge_met(sites: &[u32], w: Which, s: Option<u32>, position: usize) -> Result<(), Refusal>
+    requires { length sites.now ≤ max_instructions }
+    ensures { result ≡ judge_met w position (count_in sites.now) s }
 {
-    let Site::At(x) = s else {
-        return Checked::Good;
+    let Some(x) = s else {
+        return Ok(());
     };
-    if list::count(sites, k, x) == 0 {
-        return Checked::Refused(unmatched(w, position, crate::wide(x)));
+    if list::count(sites, x) == 0 {
+        return Err(unmatched(w, position, x as usize));
     }
-    Checked::Good
+    Ok(())
 }
 
 fn unmatched(w: Which, position: usize, x: usize) -> Refusal
@@ -93,38 +84,33 @@ fn unmatched(w: Which, position: usize, x: usize) -> Refusal
 }
 
 // 22 a Borrow event with a write site, 23 a Write event without.
-fn judge_kind(write: bool, s: Site, position: usize) -> Checked
+fn judge_kind(write: bool, s: Option<u32>, position: usize) -> Result<(), Refusal>
     ensures { result ≡ judge_kind position write s }
 {
-    let Site::At(x) = s else {
-        if write {
-            return Checked::Refused(Refusal::WriteWithoutSite(position));
-        }
-        return Checked::Good;
-    };
-    if write {
-        return Checked::Good;
+    match (write, s) {
+        (false, Some(x)) => Err(Refusal::WriteSiteOnBorrow(position, x as usize)),
+        (true, None) => Err(Refusal::WriteWithoutSite(position)),
+        _ => Ok(()),
     }
-    Checked::Refused(Refusal::WriteSiteOnBorrow(position, crate::wide(x)))
 }
 
 // 24 a command's write site with no event, 25 a StoreVar's with more than one.
-fn judge_claim(sites: &[u32], k: usize, store: bool, s: Site, position: usize) -> Checked
-    requires { (k ≤ length sites.now) × (k ≤ max_instructions) }
-    ensures { result ≡ judge_claim position (count_in (take k sites.now)) store s }
+fn judge_claim(sites: &[u32], store: bool, s: Option<u32>, position: usize) -> Result<(), Refusal>
+    requires { length sites.now ≤ max_instructions }
+    ensures { result ≡ judge_claim position (count_in sites.now) store s }
 {
-    let Site::At(x) = s else {
-        return Checked::Good;
+    let Some(x) = s else {
+        return Ok(());
     };
-    let claims = list::count(sites, k, x);
+    let claims = list::count(sites, x);
     if claims == 0 {
-        return Checked::Refused(Refusal::WriteSiteUnclaimed(position, crate::wide(x)));
+        return Err(Refusal::WriteSiteUnclaimed(position, x as usize));
     }
     if !store {
-        return Checked::Good;
+        return Ok(());
     }
     if 1 < claims {
-        return Checked::Refused(Refusal::StoreVarSiteClaimedTwice(position, crate::wide(x)));
+        return Err(Refusal::StoreVarSiteClaimedTwice(position, x as usize));
     }
-    Checked::Good
+    Ok(())
 }

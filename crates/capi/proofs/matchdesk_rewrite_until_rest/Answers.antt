@@ -1,7 +1,7 @@
--- `capi::matchdesk_rewrite_until_rest` meets its contract.
+use Rattle.std.proofs.Common.{◌∙◌}
 use Rattle.capi.proofs.Replied.{rest_replied}
 use Rattle.capi.proofs.matchdesk_rewrite_until_rest.Goals as goal
 
 pub returns : goal.returns
 returns c =
-    rest_replied _ _ _ _ _ c.reply_of_rewrite-r.result c.rewrite_until_rest.ensures c.reply_of_rewrite-r.ensures
+    rest_replied _ _ _ _ _ _ _ _ c.rewrite_until_rest.ensures (c.give.ensures ∙ c.from.ensures)

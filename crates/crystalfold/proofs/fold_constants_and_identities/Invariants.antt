@@ -1,23 +1,11 @@
 -- `fold_constants_and_identities` meets its contract: each arm is one turn.
-use Prim.Native.Nat.{ℕ, ◌-◌, ◌/◌}
+use Rattle.std.proofs.Common.{◌≤◌, length}
 use Rattle.cells.specs.Check.{registers}
 use Rattle.crystalfold.proofs.Turn.{Done}
-use Rattle.crystalfold.proofs.Written.{Since, Undoing}
 use Rattle.crystalfold.proofs.fold_constants_and_identities.Given as goal
 
--- of the list of written registers
-abbrev pub places : ℕ
-places = registers / 4
-
--- the loop of a barrier, which undoes what is listed
-abbrev pub invariant-loop-listed : goal.invariant-loop-listed
-invariant-loop-listed l = Undoing places l.written l.listed l.known
-
-abbrev pub decreases-loop-listed : goal.decreases-loop-listed
-decreases-loop-listed l = l.listed
-
-abbrev pub invariant-loop-i : goal.invariant-loop-i
-invariant-loop-i l = Done l.rules l.initial.instrs l.n l.instrs l.known l.rewrites l.i × Since places l.written l.listed l.known
-
-abbrev pub decreases-loop-i : goal.decreases-loop-i
-decreases-loop-i l = l.n - l.i
+abbrev pub invariant-loop-at : goal.invariant-loop-at
+invariant-loop-at l = record {
+  done : Done l.rules l.initial.instrs l.at-end l.instrs l.known l.rewrites l.at;
+  size : registers ≤ length l.known;
+}

@@ -13,7 +13,7 @@ use Rattle.leaves.proofs.Ranges.{abs32, passed, zero_bits, nonzero_bits}
 use Rattle.factor.specs.Factor.{factor_fx}
 use Rattle.factor.specs.Closed.{found_if, least_size, along}
 use Rattle.factor.proofs.Sizes.{zero_not, along-same, along_other}
-use Rattle.factor.proofs.Thousandths.{size_product, size_positive, closed_fx_lem, closed_zero, closed_by_zero, closed_past, closed_there}
+use Rattle.factor.proofs.Thousandths.{size_product, closed_fx_lem, closed_zero, closed_by_zero, closed_past, closed_there}
 use Rattle.factor.proofs.factor_fx.Goals as goal
 use Rattle.factor.proofs.factor_fx.Goals.{After-least_size-y, After-magnitude-a, After-product, Else-factor-eq0, Else-w-product, Else-wanted-eq0}
 
@@ -98,11 +98,6 @@ returns-then-wanted-factor c =
     let e = (goal.at.returns-then-wanted-factor c).Else-w-product in
     let d = e.before.before in
     c.above.ensures ∙ ap found_if (sym (along-same (w₀ d) (a₀ d) d.least_size-y.result (sym (signs d) ∙ c.if-wanted-factor.true))) ∙ there e
-
-pub below-requires : goal.below-requires
-below-requires c =
-    let d = (goal.at.below-requires c).After-least_size-y in
-    subst (λ (n : ℕ). 0 < n) (sym (size_is d)) (size_positive (nat_abs (w₀ d)) (nat_abs (a₀ d)) (zero_not (w₀ d) (not_zero (goal.at.below-requires c).Else-wanted-eq0)) (zero_not (a₀ d) (not-by-zero (goal.at.below-requires c).Else-factor-eq0)))
 
 pub returns : goal.returns
 returns c =

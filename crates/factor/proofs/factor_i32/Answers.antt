@@ -11,5 +11,5 @@ returns c =
     let h = c.ranges.wanted in
     let k = c.ranges.factor in
     c.factor_modulo.ensures
-    ∙ ap₂ (factor_modulo 32) (simp (to_z-of_z h) at c.bits_of.ensures) (simp (to_z-of_z k) at c.bits_of-2.ensures)
+    ∙ ap₂ (factor_modulo 32) (simp (to_z-of_z h) at c.cast_unsigned.ensures) (simp (to_z-of_z k) at c.cast_unsigned-2.ensures)
     ∙ closed_i32_lem c.args.wanted c.args.factor h k

@@ -1,7 +1,7 @@
 -- `image::check_functions` meets its contract.
 use mathlib.Core.Path.{◌≡◌}
-use Prim.Native.Nat.{◌-◌, ◌≤◌}
-use lib.ListN.{drop}
+use Prim.Native.Nat.{◌+◌, ◌/◌, ◌≤◌}
+use lib.ListN.{length}
 use Rattle.cells.specs.Cells.{cells}
 use Rattle.cells.specs.Functions.{functions}
 use Rattle.image.specs.SiteCheck.{sites_answer}
@@ -9,8 +9,8 @@ use Rattle.cells.specs.Lists.{All}
 use Rattle.cells.specs.WellFormed.{WellFormed}
 use Rattle.image.proofs.check_functions.Given as goal
 
-abbrev pub invariant-loop-at : goal.invariant-loop-at
-invariant-loop-at l = (l.at ≤ l.n) × (l.position ≤ l.at) × All WellFormed (functions (drop l.at (cells l.image))) × (sites_answer 0 (functions (cells l.image)) ≡ sites_answer l.position (functions (drop l.at (cells l.image))))
-
-abbrev pub decreases-loop-at : goal.decreases-loop-at
-decreases-loop-at l = l.n - l.at
+-- the functions that are left are well-formed, and say what all say
+abbrev pub invariant-loop-f : goal.invariant-loop-f
+invariant-loop-f l =
+    let left = l.f-iterator.0.now in
+    (l.position + length left / 16 ≤ length l.image / 16) × All WellFormed (functions (cells left)) × (sites_answer 0 (functions (cells l.image)) ≡ sites_answer l.position (functions (cells left)))

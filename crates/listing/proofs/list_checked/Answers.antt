@@ -1,11 +1,12 @@
 -- `listing::list_checked` meets its contract.
-use Rattle.listing.specs.Text.{refusal_text}
+use Rattle.listing.specs.Text.{refusal_text, good_text}
 use Rattle.listing.proofs.list_checked.Goals as goal
 
-pub returns-in-Good : goal.returns-in-Good
-returns-in-Good c = rw c.in-Good.is c.list_good.ensures
+pub returns-in-Ok : goal.returns-in-Ok
+unfolding good_text
+returns-in-Ok c = rw c.in-Ok.is c.list_line.ensures
 
-pub returns-in-Refused : goal.returns-in-Refused
+pub returns-in-Err : goal.returns-in-Err
 unfolding refusal_text
-returns-in-Refused c =
-    rw (c.in-Refused.is, ← c.numbers_of.ensures) c.list_refused.ensures
+returns-in-Err c =
+    rw (c.in-Err.is, ← c.from.ensures) c.list_refused.ensures

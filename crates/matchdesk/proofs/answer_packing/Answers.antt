@@ -1,23 +1,15 @@
--- `matchdesk::answer_packing` meets its contract.
-use mathlib.Core.Path.{refl}
-use native.Mathlib.Nat.{le_trans}
+use Rattle.std.proofs.Common.{refl}
 use Rattle.listing.proofs.Pieces.{written_none}
-use Rattle.listing.proofs.Whole.{length-refused}
-use Rattle.matchdesk.proofs.Texts.{shown, none-counted}
+use Rattle.matchdesk.proofs.Texts.{none-counted, no_length, fault_line}
 use Rattle.matchdesk.proofs.answer_packing.Goals as goal
 
-pub returns-in-Bytes : goal.returns-in-Bytes
-returns-in-Bytes c =
+pub returns-in-Ok : goal.returns-in-Ok
+returns-in-Ok c =
     let error = c.args.error.now in
-    rw c.in-Bytes.is (record { output_value = (refl, none-counted error); text_written = written_none error })
+    rw (c.in-Ok.is, c.on_output.ensures) (record { output_value = (refl, none-counted error); text_written = written_none error })
 
-pub returns-in-Refused : goal.returns-in-Refused
-returns-in-Refused c =
-    let w = c.check_line.ensures in
-    rw c.in-Refused.is (record { output_value = (refl, w.prefix_len); text_written = w.text_written })
-
-pub returns-in-Ends : goal.returns-in-Ends
-returns-in-Ends c =
-    let s = c in
-    let w = shown _ _ c.length_of.ensures refl c.list_refused.ensures (le_trans (length-refused 32 _ _) s.requires) in
-    rw c.in-Ends.is (record { output_value = (refl, w.0); text_written = w.1 })
+pub returns-in-Err : goal.returns-in-Err
+returns-in-Err c =
+    let x = c.in-Err.x in
+    let w = c.refused_line.ensures in
+    rw (c.in-Err.is, c.on_error.ensures, fault_line x c.from.result c.from.ensures) (record { output_value = (no_length x, w.prefix_len); text_written = w.text_written })

@@ -1,4 +1,3 @@
--- `matchdesk_release::answer` meets its contract.
 use mathlib.Core.Path.{sym, ◌∙◌}
 use Rattle.matchdesk_release.proofs.Whole.{not-refused}
 use Rattle.matchdesk_release.proofs.answer.Goals as goal

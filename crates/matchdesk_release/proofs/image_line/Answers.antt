@@ -1,4 +1,3 @@
--- `matchdesk_release::image_line` meets its contract.
 use native.Mathlib.Omega.{arith}
 use Rattle.matchdesk_release.proofs.Lines.{place_short, place_within, answer_room, answer_short, line-written, line-counted}
 use Rattle.matchdesk_release.proofs.image_line.Goals as goal

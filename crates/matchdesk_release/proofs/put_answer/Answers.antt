@@ -1,4 +1,3 @@
--- `matchdesk_release::put_answer` meets its contract.
 use Rattle.matchdesk_release.proofs.Lines.{by_number, by_refusal}
 use Rattle.matchdesk_release.proofs.put_answer.Goals as goal
 

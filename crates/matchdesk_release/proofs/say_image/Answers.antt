@@ -1,4 +1,3 @@
--- `matchdesk_release::say_image` meets its contract.
 use mathlib.Core.Path.{sym, ◌∙◌, ap}
 use native.Mathlib.Omega.{arith}
 use Rattle.cells.specs.Bytes.{word}

@@ -1,4 +1,3 @@
--- `matchdesk_release::write_images` meets its contract.
 use mathlib.Core.Path.{sym}
 use native.Mathlib.Omega.{arith}
 use Rattle.matchdesk_release.proofs.Whole.{writing_start, following, writing_next}
@@ -6,7 +5,7 @@ use borrow.Author.Rules.{rules}
 use Rattle.matchdesk_release.proofs.write_images.Goals as goal
 
 pub loop-at-init : goal.loop-at-init
-loop-at-init g c = writing_start c.args.release.now _ _ c.requires c.frame_buffer-frame.ensures c.line_buffer-line.ensures
+loop-at-init g c = writing_start c.args.release.now _ _ c.requires c.zeros-frame.ensures c.zeros-line.ensures
 
 pub word-size-requires : goal.word-size-requires
 word-size-requires g c = omega (arith, (following c.loop-at.invariant c.loop-at-test.true).within)

@@ -1,4 +1,3 @@
--- `matchdesk_release::write_images` meets its contract.
 use Prim.Native.Nat.{◌-◌}
 use lib.ListN.{length}
 use Rattle.matchdesk_release.proofs.Whole.{Writing}

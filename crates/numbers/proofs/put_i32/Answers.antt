@@ -10,20 +10,20 @@ use Rattle.numbers.proofs.put_i32.Goals as goal
 pub put_decimal-b-requires : goal.put_decimal-b-requires
 put_decimal-b-requires c =
     let p = c.put_sign-a in
-    omega (arith, sign_room c.args.z p.ensures, length-decimal c.magnitude.result, p.auto)
+    omega (arith, sign_room c.args.z p.ensures, length-decimal c.unsigned_abs.result, p.auto)
 
 pub append-requires : goal.append-requires
 append-requires c =
     let p = c.put_sign-a in
-    let n = c.magnitude in
+    let n = c.unsigned_abs in
     let q = c.put_decimal-b in
-    let w = signed-written c.args.z p.ensures c.ranges.z n.ensures q.ensures in
+    let w = signed-written c.args.z p.ensures c.ranges.z n.ensures.value q.ensures in
     omega (arith, w.end, length-signed c.args.z, p.auto, q.auto)
 
 pub returns : goal.returns
 returns c =
     let p = c.put_sign-a in
-    let n = c.magnitude in
+    let n = c.unsigned_abs in
     let q = c.put_decimal-b in
-    let v = signed-written c.args.z p.ensures c.ranges.z n.ensures q.ensures in
+    let v = signed-written c.args.z p.ensures c.ranges.z n.ensures.value q.ensures in
     written_next v (line_feed ∷ []) c.append.ensures

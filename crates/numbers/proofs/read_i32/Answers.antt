@@ -1,17 +1,20 @@
 -- `numbers::read_i32` meets its contract.
 use mathlib.Core.Path.{◌∙◌}
-use Rattle.numbers.proofs.Digits.{word-empty, word-minus, word-plus, word-plain}
+use native.Mathlib.Omega.{arith}
 use borrow.Author.Rules.{rules}
+use Rattle.numbers.proofs.Digits.{word-minus, word-plus, word-plain}
 use Rattle.numbers.proofs.read_i32.Goals as goal
+use Rattle.numbers.proofs.read_i32.Goals.{in_default-via-then-word-lt1, in_default-via-else-word-lt1+in_default-1}
 
-pub returns-then-word-eq0 : goal.returns-then-word-eq0
-returns-then-word-eq0 c = word-empty c.args.word.now (search rules)
+pub returns-in-45 : goal.returns-in-45
+returns-in-45 c = c.number_of.ensures ∙ word-minus c.args.word.now c.in-45.len_at_least (omega arith)
 
-pub returns-then-sign-eq45 : goal.returns-then-sign-eq45
-returns-then-sign-eq45 c = c.number_of.ensures ∙ word-minus c.args.word.now (search rules) (search rules)
+pub returns-in-43 : goal.returns-in-43
+returns-in-43 c = c.number_of-in-43.ensures ∙ word-plus c.args.word.now c.in-43.len_at_least (omega arith)
 
-pub returns-then-sign-eq43 : goal.returns-then-sign-eq43
-returns-then-sign-eq43 c = c.number_of-then-sign-eq43.ensures ∙ word-plus c.args.word.now (search rules) (search rules)
-
-pub returns : goal.returns
-returns c = c.number_of-2.ensures ∙ word-plain c.args.word.now (search rules) (λ e. search rules) (λ e. search rules)
+pub returns-in_default : goal.returns-in_default
+returns-in_default c =
+    c.number_of-in_default.ensures ∙ elim c.in_default.branch [
+      | in_default-via-then-word-lt1 w ↦ word-plain c.args.word.now (λ h e. search rules) (λ h e. grind arith)
+      | in_default-via-else-word-lt1+in_default-1 w ↦ word-plain c.args.word.now (λ h e. search rules) (λ h e. grind arith)
+    ]

@@ -1,11 +1,7 @@
 -- `pages::put_part` meets its contract.
-use Prim.Native.Nat.{◌-◌}
 use Rattle.cells.specs.Cells.{cells}
 use Rattle.pages.proofs.Laying.{PartPut}
 use Rattle.pages.proofs.put_part.Given as goal
 
 abbrev pub invariant-loop-i : goal.invariant-loop-i
 invariant-loop-i l = PartPut l.p l.name l.position (cells l.part) l.initial.text l.at l.text l.to l.i
-
-abbrev pub decreases-loop-i : goal.decreases-loop-i
-decreases-loop-i l = l.n - l.i

@@ -1,32 +1,23 @@
 -- `passes::run` meets its contract.
 use native.Mathlib.Omega.{arith}
+use Rattle.std.proofs.lemmas.Result.{err_from_is_err_and}
 use Rattle.passes.proofs.Answered.{run-refused, run_ready, run_short, run-written}
 use Rattle.passes.proofs.run.Goals as goal
 
-pub returns-in-Refused : goal.returns-in-Refused
-returns-in-Refused c =
-    let k = c in
-    let q = k in
-    let e = run-refused q.args.pass q.args.image.now q.args.out.now k.check-checked.ensures c.in-Refused.is in
-    record { value = e.0; out_after = e.1 }
+pub returns-in_err-check : goal.returns-in_err-check
+returns-in_err-check c =
+    let p = err_from_is_err_and c.from_residual.result c.from_residual.ensures.1 in
+    let e = run-refused c.args.pass c.args.image.now c.args.out.now c.check.ensures c.in_err-check.was in
+    rw (p.1, p.2) (record { value = e.0; out_after = e.1 })
 
 pub rewrite_functions-total-requires : goal.rewrite_functions-total-requires
-rewrite_functions-total-requires c =
-    let k = c in
-    let q = k in
-    run_ready q.args.pass q.args.image.now q.args.out.now k.check-checked.ensures c.in_default.is
+rewrite_functions-total-requires c = run_ready c.args.pass c.args.image.now c.args.out.now c.check.ensures c.in_ok-check.was
 
 pub overflow_mul-result : goal.overflow_mul-result
 overflow_mul-result c =
-    let w = c in
-    let k = w in
-    let q = k in
-    omega (arith, run_short q.args.pass q.args.image.now q.args.out.now k.check-checked.ensures w.in_default.is _ _ w.rewrite_functions-total.ensures)
+    omega (arith, run_short c.args.pass c.args.image.now c.args.out.now c.check.ensures c.in_ok-check.was _ _ c.rewrite_functions-total.ensures)
 
 pub returns : goal.returns
 returns c =
-    let w = c in
-    let k = w in
-    let q = k in
-    let e = run-written q.args.pass q.args.image.now q.args.out.now k.check-checked.ensures w.in_default.is _ _ w.rewrite_functions-total.ensures in
-    record { value = e.0; out_after = e.1 }
+    let e = run-written c.args.pass c.args.image.now c.args.out.now c.check.ensures c.in_ok-check.was _ _ c.rewrite_functions-total.ensures in
+    rw c.new.ensures (record { value = e.0; out_after = e.1 })

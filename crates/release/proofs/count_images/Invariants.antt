@@ -1,11 +1,10 @@
 -- `release::count_images` meets its contract.
-use Prim.Native.Nat.{◌-◌}
 use lib.ListN.{length}
 use Rattle.release.proofs.Frames.{Counted}
 use Rattle.release.proofs.count_images.Given as goal
 
-abbrev pub invariant-loop-at : goal.invariant-loop-at
-invariant-loop-at l = Counted l.release l.at l.n
+abbrev pub invariant-loop-left : goal.invariant-loop-left
+invariant-loop-left l = Counted l.release l.left l.n
 
-abbrev pub decreases-loop-at : goal.decreases-loop-at
-decreases-loop-at l = length l.release - l.at
+abbrev pub decreases-loop-left : goal.decreases-loop-left
+decreases-loop-left l = length l.left

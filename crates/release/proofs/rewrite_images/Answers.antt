@@ -5,7 +5,7 @@ use lib.ListN.{length}
 use Rattle.release.proofs.Frames.{Next}
 use Rattle.release.proofs.Images.{rewriting_start, following, answer_room, place, part_short, rewriting_next, rewriting_end}
 use Rattle.release.proofs.rewrite_images.Goals as goal
-use Rattle.release.proofs.rewrite_images.Goals.{After-rewrite_image-n, In-loop-at}
+use Rattle.release.proofs.rewrite_images.Goals.{After-rewrite_image-to, In-loop-at}
 
 -- in the loop: the next image is whole; what is written is within the output, and there is room for one more answer
 next-image : (c : In-loop-at) → Next c.args.release.now c.loop-at.at c.loop-at.invariant.rest
@@ -18,9 +18,9 @@ answer-within : (c : In-loop-at) → c.loop-at.k + 12 ≤ length c.loop-at.answe
 answer-within c = answer_room c.loop-at.invariant c.loop-at-test.true
 
 -- once it is rewritten
-short-part : (r : After-rewrite_image-n) → r.rewrite_image-n.result ≤ 4 + r.word-size.result
+short-part : (r : After-rewrite_image-to) → r.rewrite_image-to.result ≤ 4 + r.word-size.result
 short-part r =
-    part_short r.loop-at.invariant r.loop-at-test.true r.word-size.result r.word-size.ensures.0 _ _ r.rewrite_image-n.result r.rewrite_image-n.ensures
+    part_short r.loop-at.invariant r.loop-at-test.true r.word-size.result r.word-size.ensures.0 _ _ r.rewrite_image-to.result r.rewrite_image-to.ensures
 
 pub loop-at-init : goal.loop-at-init
 loop-at-init c = rewriting_start c.args.release.now c.args.out.now c.args.answers.now c.requires
@@ -43,11 +43,11 @@ slice_bounds-rewrite_image-count-in-loop-at c = omega (arith, within (goal.at.sl
 pub slice_bounds-rewrite_image-count-in-loop-at-2 : goal.slice_bounds-rewrite_image-count-in-loop-at-2
 slice_bounds-rewrite_image-count-in-loop-at-2 c = omega (arith, answer-within (goal.at.slice_bounds-rewrite_image-count-in-loop-at-2 c).In-loop-at)
 
-pub rewrite_image-n-requires : goal.rewrite_image-n-requires
-rewrite_image-n-requires c = place c.loop-at.invariant c.loop-at-test.true c.word-size.result c.word-size.ensures.0
+pub rewrite_image-to-requires : goal.rewrite_image-to-requires
+rewrite_image-to-requires c = place c.loop-at.invariant c.loop-at-test.true c.word-size.result c.word-size.ensures.0
 
 pub overflow_add-to : goal.overflow_add-to
-overflow_add-to c = omega (arith, short-part (goal.at.overflow_add-to c).After-rewrite_image-n, within (goal.at.overflow_add-to c).In-loop-at, (next-image (goal.at.overflow_add-to c).In-loop-at).within)
+overflow_add-to c = omega (arith, short-part (goal.at.overflow_add-to c).After-rewrite_image-to, within (goal.at.overflow_add-to c).In-loop-at, (next-image (goal.at.overflow_add-to c).In-loop-at).within)
 
 pub overflow_add-k : goal.overflow_add-k
 overflow_add-k c = omega (arith, answer-within (goal.at.overflow_add-k c).In-loop-at)
@@ -57,7 +57,7 @@ loop-at-smaller c = omega (arith, (next-image (goal.at.loop-at-smaller c).In-loo
 
 pub loop-at-preserved : goal.loop-at-preserved
 loop-at-preserved c =
-    rewriting_next c.loop-at.invariant c.loop-at-test.true c.word-size.result c.word-size.ensures.0 _ _ c.rewrite_image-n.result c.rewrite_image-n.ensures
+    rewriting_next c.loop-at.invariant c.loop-at-test.true c.word-size.result c.word-size.ensures.0 _ _ c.rewrite_image-to.result c.rewrite_image-to.ensures
 
 pub shape_of-out : goal.shape_of-out
 shape_of-out c = c.loop-at.invariant.same_out

@@ -1,12 +1,8 @@
--- `cases_leaves::leaf::compute` meets its contract.
 use mir.Facts.{to_z-of_z}
+use Rattle.std.proofs.Common.{arith}
 use Rattle.cases_leaves.specs.Leaves.{answer_of, pick}
-use Rattle.cases_leaves.proofs.Picked.{none_from_1, fits_i32}
+use Rattle.cases_leaves.proofs.Picked.{picked_none, fits_i32}
 use Rattle.cases_leaves.proofs.leaf.compute.Goals as goal
-
-pub returns-in-1 : goal.returns-in-1
-unfolding answer_of pick
-returns-in-1 c = simp (c.f64_leaf.ensures, c.of_bits-in-1.ensures, c.of_bits.ensures, c.in-1.is)
 
 pub returns-in-2 : goal.returns-in-2
 unfolding answer_of pick
@@ -20,24 +16,10 @@ pub returns-in-4 : goal.returns-in-4
 unfolding answer_of pick
 returns-in-4 c = simp (c.fx_leaf.ensures, c.i32_of-in-4-2.ensures, c.i32_of-in-4.ensures, c.in-4.is, to_z-of_z (fits_i32 c.args.a), to_z-of_z (fits_i32 c.args.b))
 
-pub returns-in-5 : goal.returns-in-5
-unfolding answer_of pick
-returns-in-5 c = simp (c.quad_leaf.ensures, c.in-5.is)
-
-pub returns-in-6 : goal.returns-in-6
-unfolding answer_of pick
-returns-in-6 c = simp (c.bool_leaf.ensures, c.in-6.is)
-
-pub returns-in-7 : goal.returns-in-7
-unfolding answer_of pick
-returns-in-7 c = simp (c.equality.ensures, c.in-7.is)
-
 pub returns-in-8 : goal.returns-in-8
 unfolding answer_of pick
 returns-in-8 c = simp (c.factor_leaf.ensures, c.i32_of-in-8-2.ensures, c.i32_of-in-8.ensures, c.in-8.is, to_z-of_z (fits_i32 c.args.a), to_z-of_z (fits_i32 c.args.b))
 
 pub returns-in_default : goal.returns-in_default
 unfolding answer_of
-returns-in_default c =
-    let not = c.in_default.in_default-own.rest in
-    none_from_1 _ _ (not.0.0.0.0.0.0.0.1, (not.0.0.0.0.0.0.1, (not.0.0.0.0.0.1, (not.0.0.0.0.1, (not.0.0.0.1, (not.0.0.1, (not.0.1, (not.1, tt))))))))
+returns-in_default c = picked_none _ _ (λ e. omega arith)

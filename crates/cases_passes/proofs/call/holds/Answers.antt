@@ -1,4 +1,3 @@
--- `cases_passes::call::holds` meets its contract.
 use native.Mathlib.Omega.{arith}
 use Rattle.cases_passes.proofs.Marked.{part}
 use Rattle.cases_passes.proofs.Called.{unknown, too_far, too_long_lem, cut_past, not_given, held}
@@ -12,22 +11,22 @@ returns-in_default g c =
 pub returns-then-room-gt-MAX_ROOM : goal.returns-then-room-gt-MAX_ROOM
 returns-then-room-gt-MAX_ROOM g c =
     let a = c.args in
-    too_far a.head.now a.image.now a.want.now _ c.half-answers.ensures.0 _ c.asked_by-asked.ensures _ c.in-Run.is _ _ c.word-room.ensures.0 c.reply_in-expected.ensures _ c.malformed-then-room-gt-MAX_ROOM.ensures c.if-room-gt-MAX_ROOM.true
+    too_far a.head.now a.image.now a.want.now _ c.half-answers.ensures.0 _ c.asked_by-asked.ensures _ c.in-Some.is _ _ c.word-room.ensures.0 c.reply_in-expected.ensures _ c.malformed-then-room-gt-MAX_ROOM.ensures c.if-room-gt-MAX_ROOM.true
 
 pub returns-then-room-n : goal.returns-then-room-n
 returns-then-room-n g c =
     let a = c.args in
-    too_long_lem a.head.now a.image.now a.want.now _ c.half-answers.ensures.0 _ c.asked_by-asked.ensures _ c.in-Run.is _ _ c.word-room.ensures.0 c.reply_in-expected.ensures _ c.malformed-then-room-n.ensures c.if-room-n.true
+    too_long_lem a.head.now a.image.now a.want.now _ c.half-answers.ensures.0 _ c.asked_by-asked.ensures _ c.in-Some.is _ _ c.word-room.ensures.0 c.reply_in-expected.ensures _ c.malformed-then-room-n.ensures c.if-room-n.true
 
 pub returns-then-room-answers : goal.returns-then-room-answers
 returns-then-room-answers g c =
     let a = c.args in
-    cut_past a.head.now a.image.now a.want.now _ c.half-answers.ensures.0 _ c.asked_by-asked.ensures _ c.in-Run.is _ _ c.word-room.ensures.0 c.reply_in-expected.ensures _ c.malformed-then-room-answers.ensures c.if-room-answers.true
+    cut_past a.head.now a.image.now a.want.now _ c.half-answers.ensures.0 _ c.asked_by-asked.ensures _ c.in-Some.is _ _ c.word-room.ensures.0 c.reply_in-expected.ensures _ c.malformed-then-room-answers.ensures c.if-room-answers.true
 
 pub returns-then-want-n : goal.returns-then-want-n
 returns-then-want-n g c =
     let a = c.args in
-    not_given a.head.now a.image.now a.want.now _ c.half-answers.ensures.0 _ c.asked_by-asked.ensures _ c.in-Run.is _ _ c.word-room.ensures.0 c.reply_in-expected.ensures _ c.malformed-then-want-n.ensures c.if-want-n.true
+    not_given a.head.now a.image.now a.want.now _ c.half-answers.ensures.0 _ c.asked_by-asked.ensures _ c.in-Some.is _ _ c.word-room.ensures.0 c.reply_in-expected.ensures _ c.malformed-then-want-n.ensures c.if-want-n.true
 
 pub agrees-held-requires : goal.agrees-held-requires
 agrees-held-requires g c =
@@ -38,12 +37,12 @@ agrees-held-requires g c =
 pub returns-then-not-held : goal.returns-then-not-held
 returns-then-not-held g c =
     let a = c.args in
-    held a.head.now a.image.now a.want.now _ c.half-answers.ensures.0 _ c.asked_by-asked.ensures _ c.in-Run.is _ _ c.word-room.ensures.0 c.reply_in-expected.ensures _ c.if-room-gt-MAX_ROOM.false c.if-room-n.false c.if-room-answers.false c.if-want-n.false c.agrees-held.ensures
+    held a.head.now a.image.now a.want.now _ c.half-answers.ensures.0 _ c.asked_by-asked.ensures _ c.in-Some.is _ _ c.word-room.ensures.0 c.reply_in-expected.ensures _ c.if-room-gt-MAX_ROOM.false c.if-room-n.false c.if-room-answers.false c.if-want-n.false c.agrees-held.ensures
 
 pub returns-else-not-held : goal.returns-else-not-held
 returns-else-not-held g c =
     let a = c.args in
-    held a.head.now a.image.now a.want.now _ c.half-answers.ensures.0 _ c.asked_by-asked.ensures _ c.in-Run.is _ _ c.word-room.ensures.0 c.reply_in-expected.ensures _ c.if-room-gt-MAX_ROOM.false c.if-room-n.false c.if-room-answers.false c.if-want-n.false c.agrees-held.ensures
+    held a.head.now a.image.now a.want.now _ c.half-answers.ensures.0 _ c.asked_by-asked.ensures _ c.in-Some.is _ _ c.word-room.ensures.0 c.reply_in-expected.ensures _ c.if-room-gt-MAX_ROOM.false c.if-room-n.false c.if-room-answers.false c.if-want-n.false c.agrees-held.ensures
 
 pub slice_bounds-agrees-end : goal.slice_bounds-agrees-end
 slice_bounds-agrees-end g c = part _ _ (omega arith)

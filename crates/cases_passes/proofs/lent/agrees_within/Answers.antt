@@ -1,10 +1,11 @@
--- `cases_passes::lent::agrees_within` meets its contract.
 use mathlib.Core.Path.{sym, ◌∙◌, ap}
 use native.Mathlib.Omega.{arith}
+use borrow.Author.Rules.{rules}
 use lib.ListN.{length}
 use Rattle.cases_passes.specs.Operations.{answer}
 use Rattle.cases_passes.proofs.Marked.{part, marked-length}
 use Rattle.cases_passes.proofs.Called.{lent-bytes, model_bytes, agreed}
+use Rattle.cases_passes.proofs.Replies.{same-reply}
 use Rattle.cases_passes.proofs.lent.agrees_within.Goals as goal
 
 pub slice_bounds-run-end-2 : goal.slice_bounds-run-end-2
@@ -23,7 +24,7 @@ returns c =
     let out = lent-bytes a.operation a.image.now _ _ a.room n c.mark.ensures c.run-got.ensures.out_after in
     let model = model_bytes a.want.now _ _ (length a.model.now) c.mark-2.ensures c.copy.ensures.1 in
     record {
-      variant = agreed a.operation a.image.now a.want.now _ _ _ a.expected a.room n _ _ got out (rw pre.2 model) c.same-replied.ensures c.same_bytes-written.ensures;
+      variant = agreed a.operation a.image.now a.want.now _ c.copy.new.dst _ a.expected a.room n c.eq-replied.result c.eq-written.result got out (rw pre.2 model) (rw c.eq-replied.ensures (same-reply c.run-got.result a.expected)) (search rules);
       out_after = out;
       model_after = model;
     }

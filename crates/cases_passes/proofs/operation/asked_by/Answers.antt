@@ -1,4 +1,3 @@
--- `cases_passes::operation::asked_by` meets its contract.
 use native.Mathlib.Omega.{arith}
 use Rattle.std.proofs.lemmas.Bool.Decides.{nat_tests}
 use Rattle.cases_passes.specs.Operations.{asked_by}

@@ -1,4 +1,3 @@
--- `cases_passes::parts::rewrite_within` meets its contract.
 use native.Mathlib.Omega.{arith}
 use Rattle.cases_passes.proofs.Marked.{part}
 use Rattle.cases_passes.proofs.Cut.{parts_answer, parts_numbers, parts_bytes}

@@ -1,4 +1,3 @@
--- `cases_passes::records::held` meets its contract.
 use Rattle.cases_passes.proofs.Marked.{part}
 use Rattle.cases_passes.proofs.Called.{held_in, no_name, no_image, no_output}
 use Rattle.cases_passes.proofs.records.held.Goals as goal

@@ -1,4 +1,3 @@
--- `cases_passes::runs::put_numbered` meets its contract.
 use borrow.Author.Tests.{ne_eqb}
 use Rattle.cases_passes.specs.Runs.{put_numbered}
 use Rattle.cases_passes.proofs.runs.put_numbered.Goals as goal

@@ -15,7 +15,7 @@ use Rattle.cells.specs.declared.table.Kind.{Kind}
 use Rattle.cells.proofs.Rows.{row_operands, packed-first, packed-rest, packed_some}
 use Rattle.cells.proofs.check.operands_ok.Invariants.{End}
 use Rattle.cells.proofs.check.operands_ok.Goals as goal
-use Rattle.cells.proofs.check.operands_ok.Goals.{After-kind_of-k}
+use Rattle.cells.proofs.check.operands_ok.Goals.{After-from-k}
 
 -- what a turn finds at the operand of kind k
 record Turn (c : List ℕ) (row left at : ℕ) (k : Kind) : Type 0 where
@@ -58,19 +58,16 @@ loop-left-init c =
     record { ks = row_of p.args.row; is = ap (λ (n : ℕ). n / 16) c.row_at-left.ensures ∙ row_operands (row_at p.args.row); fits = p.requires.0; says = refl }
 
 -- what the turn finds, once its kind is known
-at-kind : (c : After-kind_of-k) → Turn c.args.c.now c.args.row
-    c.loop-left.left c.loop-left.at c.kind_of-k.result
-at-kind c = turn c.loop-left.invariant c.loop-left-test.true c.kind_of-k.result c.kind_of-k.ensures
+at-kind : (c : After-from-k) → Turn c.args.c.now c.args.row
+    c.loop-left.left c.loop-left.at c.from-k.result
+at-kind c = turn c.loop-left.invariant c.loop-left-test.true c.from-k.result c.from-k.ensures
 
 pub returns-then-not-operand_ok : goal.returns-then-not-operand_ok
-returns-then-not-operand_ok c = sym ((at-kind (goal.at.returns-then-not-operand_ok c).After-kind_of-k).stop (sym c.operand_ok.ensures ∙ c.if-not-operand_ok.true))
-
-pub loop-left-smaller : goal.loop-left-smaller
-loop-left-smaller c = omega arith
+returns-then-not-operand_ok c = sym ((at-kind (goal.at.returns-then-not-operand_ok c).After-from-k).stop (sym c.operand_ok.ensures ∙ c.if-not-operand_ok.true))
 
 pub loop-left-preserved : goal.loop-left-preserved
 loop-left-preserved c =
-    (at-kind (goal.at.loop-left-preserved c).After-kind_of-k).next c.width-at.result c.width-at.ensures (sym c.operand_ok.ensures ∙ c.if-not-operand_ok.false)
+    (at-kind (goal.at.loop-left-preserved c).After-from-k).next c.width-at.result c.width-at.ensures (sym c.operand_ok.ensures ∙ c.if-not-operand_ok.false)
 
 pub zeros_from-requires : goal.zeros_from-requires
 zeros_from-requires c = (done c.loop-left.invariant c.loop-left-test.false).0
@@ -78,17 +75,8 @@ zeros_from-requires c = (done c.loop-left.invariant c.loop-left-test.false).0
 pub returns : goal.returns
 returns c = c.zeros_from.ensures ∙ sym (done c.loop-left.invariant c.loop-left-test.false).1
 
-pub row_at-left-requires : goal.row_at-left-requires
-row_at-left-requires c = omega arith
-
-pub kind_of-k-requires : goal.kind_of-k-requires
-kind_of-k-requires c = tt
-
 pub operand_ok-requires : goal.operand_ok-requires
 operand_ok-requires c = (at-kind c).room
 
-pub width-at-requires : goal.width-at-requires
-width-at-requires c = tt
-
 pub overflow_add-at : goal.overflow_add-at
-overflow_add-at c = omega (arith, (at-kind (goal.at.overflow_add-at c).After-kind_of-k).room)
+overflow_add-at c = omega (arith, (at-kind (goal.at.overflow_add-at c).After-from-k).room)

@@ -1,28 +1,16 @@
--- `cells::check::zeros_from` meets its contract: what the bytes from its start on say, those from the loop's position on say.
-use mathlib.Core.Path.{refl, sym, ap, ◌∙◌}
-use lib.ListN.{drop_of_length-le}
-use borrow.Author.Rules.{rules}
-use borrow.Author.Tests.{ne_eqb}
+-- `cells::check::zeros_from` meets its contract: `all` says of each byte what `zeros` says of the list.
+use Rattle.std.proofs.lemmas.Grind.{common_steps}
+use Rattle.std.proofs.Common.{arith, ℕ, Bool, ◌&&◌, ◌∙◌, ◌≡◌, eqb, refl, rules, tests, drop}
+use Rattle.std.proofs.lemmas.Iterator.{YieldsList-from_slice}
+use Rattle.std.proofs.lemmas.Iterator.Search.{all_from_yields_List}
+use Rattle.std.proofs.lemmas.List.Recursion.{same_from_clauses}
+use Rattle.std.specs.List.{list_all}
 use Rattle.cells.specs.Bytes.{zeros}
-use Rattle.cells.proofs.Checks.{zeros-step}
 use Rattle.cells.proofs.check.zeros_from.Goals as goal
-
-pub loop-i-init : goal.loop-i-init
-loop-i-init c = (c.requires, refl)
-
-pub returns-then-c-i-ne0 : goal.returns-then-c-i-ne0
-returns-then-c-i-ne0 c =
-    let l = c in
-    let a = l.args in
-    sym (l.loop-i.invariant.1 ∙ zeros-step a.c.now l.loop-i.i c.loop-i-test.true ∙ simp (ne_eqb _ _ c.if-c-i-ne0.true))
-
-pub loop-i-preserved : goal.loop-i-preserved
-loop-i-preserved c =
-    let l = c in
-    let a = l.args in
-    (search rules, l.loop-i.invariant.1 ∙ zeros-step a.c.now l.loop-i.i c.loop-i-test.true ∙ simp c.if-c-i-ne0.false)
 
 pub returns : goal.returns
 returns c =
-    let l = c in
-    sym (l.loop-i.invariant.1 ∙ ap zeros (drop_of_length-le l.args.c.now c.loop-i-test.false))
+    let xs = drop c.args.at c.args.c.now in
+    let h : c.iter.result.rest.now ≡ xs = grind (arith, common_steps, c.iter.ensures.rest) in
+    let found = all_from_yields_List (λ (b : ℕ). eqb b 0) _ _ c.all.result c.all.ensures.ran (YieldsList-from_slice xs h) (λ x b q k. search (rules, tests)) in
+    found ∙ same_from_clauses (list_all (λ (b : ℕ). eqb b 0)) zeros (λ (b : ℕ) (rest : Bool). eqb b 0 && rest) refl (λ _ _. refl) (λ _ _. refl) xs

@@ -8,5 +8,5 @@ pub returns : goal.returns
 returns c =
     let a = c.args in
     spanned a.image.now a.at c.requires _ refl refl
-    (simp (c.at_most.ensures, c.half.ensures.0, add-sub_cancel_left))
-    (simp (c.at_most-2.ensures, c.half-2.ensures.0, add-sub_cancel_left))
+    (simp (c.min.ensures, c.half.ensures.0, add-sub_cancel_left))
+    (simp (c.min-2.ensures, c.half-2.ensures.0, add-sub_cancel_left))

@@ -1,5 +1,5 @@
 -- `cleanup::events::removed_sites` meets its contract.
-use Prim.Native.Nat.{◌-◌, ◌/◌}
+use Prim.Native.Nat.{◌/◌}
 use lib.ListN.{length}
 use Rattle.cells.specs.Cells.{cells}
 use Rattle.cells.specs.View.{view}
@@ -10,7 +10,4 @@ use Rattle.sites.specs.Sites.{site_of, sites_on}
 use Rattle.cleanup.proofs.events.removed_sites.Given as goal
 
 abbrev pub invariant-loop-k : goal.invariant-loop-k
-invariant-loop-k l = Going l.initial.list (length l.code / 16) (sites_on (site_of l.which) (removed view (cells l.code))) (gone l.which l.code l.unreachable l.k) l.list l.k l.found
-
-abbrev pub decreases-loop-k : goal.decreases-loop-k
-decreases-loop-k l = l.n - l.k
+invariant-loop-k l = Going l.initial.list (length l.code / 16) (sites_on (site_of l.which) (removed view (cells l.code))) (gone l.which l.code l.rule.ended l.k) l.list l.k l.found

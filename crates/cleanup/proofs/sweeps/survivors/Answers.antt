@@ -1,52 +1,82 @@
 -- `cleanup::sweeps::survivors` meets its contract, sweep by sweep.
-use mathlib.Core.Bool.{false}
-use mathlib.Core.Option.{none}
-use mathlib.Core.List.{List}
-use Prim.Native.Nat.{ℕ, ◌/◌, ◌≤◌}
-use mathlib.Core.Path.{◌≡◌}
-use lib.ListN.{length, take}
-use Rattle.cells.specs.Cells.{over, Put}
-use Rattle.cells.specs.Ins.{label_of}
-use Rattle.cleanup.proofs.Stages.{Stage, stage_start, stage_next, stage_listed}
-use Rattle.cleanup.proofs.Sweeping.{sub_dedupe, sub_reach, sub_sweep}
-use Rattle.cleanup.specs.Marks.{jump_of, removable_load}
-use Rattle.cleanup.specs.Sweeps.{remove_duplicate_consecutive_labels, remove_unreachable_until_label, remove_noop_jumps, remove_redundant_consecutive_loads}
-use Rattle.cleanup.specs.Positions.{see_at, every, left₁, left₂, left₃}
+use Prim.Native.Nat.{◌/◌}
+use lib.ListN.{length}
+use Rattle.cleanup.proofs.Stages.{stage_start, stage_room, stage_taken, stage_below, after_labels, after_unreachable, after_jumps, after_loads}
 use Rattle.cleanup.proofs.sweeps.survivors.Goals as goal
 
--- the list of positions after each call
-module _ (code list : List ℕ) {l₁ : List ℕ} (long : length code / 16 ≤ length list) (filled : l₁ ≡ over (every code) list) where
-  stage₁ : Stage (length code / 16) list (every code) l₁ (length code / 16)
-  stage₁ = stage_start (length code / 16) list l₁ long filled
+pub sweep-n-requires : goal.sweep-n-requires
+sweep-n-requires c =
+    let s₁ = stage_start (length c.args.code.now / 16) c.args.list.now c.requires.0 c.fill.ensures in
+    stage_below s₁
 
-  module _ {l₂ : List ℕ} {n₂ : ℕ} (labels : Put (remove_duplicate_consecutive_labels (see_at code) (take (length code / 16) l₁)) l₁ l₂ n₂) where
-    stage₂ : Stage (length code / 16) (over (every code) list) (left₁ code) l₂ n₂
-    stage₂ = stage_next stage₁ (remove_duplicate_consecutive_labels (see_at code)) (sub_dedupe (see_at code) none) labels
+pub slice_bounds-sweep-end-3 : goal.slice_bounds-sweep-end-3
+slice_bounds-sweep-end-3 c =
+    let s₁ = stage_start (length c.args.code.now / 16) c.args.list.now c.requires.0 c.fill.ensures in
+    let s₂ = after_labels c.args.code.now s₁ c.sweep-n.ensures in
+    stage_room s₂
 
-    module _ {l₃ : List ℕ} {n₃ : ℕ} (unreachable : Put (remove_unreachable_until_label (see_at code) (take n₂ l₂)) l₂ l₃ n₃) where
-      stage₃ : Stage (length code / 16) (over (left₁ code) (over (every code) list)) (left₂ code) l₃ n₃
-      stage₃ = stage_next stage₂ (remove_unreachable_until_label (see_at code)) (sub_reach (see_at code) false) unreachable
+pub slice_bounds-sweep-end-4 : goal.slice_bounds-sweep-end-4
+slice_bounds-sweep-end-4 c =
+    let s₁ = stage_start (length c.args.code.now / 16) c.args.list.now c.requires.0 c.fill.ensures in
+    let s₂ = after_labels c.args.code.now s₁ c.sweep-n.ensures in
+    stage_taken s₂
 
-      module _ {l₄ : List ℕ} {n₄ : ℕ} (jumps : Put (remove_noop_jumps (see_at code) (take n₃ l₃)) l₃ l₄ n₄) where
-        stage₄ : Stage (length code / 16) (over (left₂ code) (over (left₁ code) (over (every code) list))) (left₃ code) l₄ n₄
-        stage₄ = stage_next stage₃ (remove_noop_jumps (see_at code)) (sub_sweep (see_at code) jump_of label_of) jumps
+pub sweep-n-requires-2 : goal.sweep-n-requires-2
+sweep-n-requires-2 c =
+    let s₁ = stage_start (length c.args.code.now / 16) c.args.list.now c.requires.0 c.fill.ensures in
+    let s₂ = after_labels c.args.code.now s₁ c.sweep-n.ensures in
+    stage_below s₂
 
-pub remove_duplicate_consecutive_labels-n-requires : goal.remove_duplicate_consecutive_labels-n-requires
-remove_duplicate_consecutive_labels-n-requires c = stage_listed (stage₁ c.args.code.now c.args.list.now c.requires.0 c.fill.ensures)
+pub slice_bounds-sweep-end-5 : goal.slice_bounds-sweep-end-5
+slice_bounds-sweep-end-5 c =
+    let s₁ = stage_start (length c.args.code.now / 16) c.args.list.now c.requires.0 c.fill.ensures in
+    let s₂ = after_labels c.args.code.now s₁ c.sweep-n.ensures in
+    let s₃ = after_unreachable c.args.code.now s₂ c.sweep-n-2.ensures in
+    stage_room s₃
 
-pub remove_unreachable_until_label-n-requires : goal.remove_unreachable_until_label-n-requires
-remove_unreachable_until_label-n-requires c = stage_listed (stage₂ c.args.code.now c.args.list.now c.requires.0 c.fill.ensures c.remove_duplicate_consecutive_labels-n.ensures)
+pub slice_bounds-sweep-end-6 : goal.slice_bounds-sweep-end-6
+slice_bounds-sweep-end-6 c =
+    let s₁ = stage_start (length c.args.code.now / 16) c.args.list.now c.requires.0 c.fill.ensures in
+    let s₂ = after_labels c.args.code.now s₁ c.sweep-n.ensures in
+    let s₃ = after_unreachable c.args.code.now s₂ c.sweep-n-2.ensures in
+    stage_taken s₃
 
-pub remove_noop_jumps-n-requires : goal.remove_noop_jumps-n-requires
-remove_noop_jumps-n-requires c = stage_listed (stage₃ c.args.code.now c.args.list.now c.requires.0 c.fill.ensures c.remove_duplicate_consecutive_labels-n.ensures c.remove_unreachable_until_label-n.ensures)
+pub sweep-n-requires-3 : goal.sweep-n-requires-3
+sweep-n-requires-3 c =
+    let s₁ = stage_start (length c.args.code.now / 16) c.args.list.now c.requires.0 c.fill.ensures in
+    let s₂ = after_labels c.args.code.now s₁ c.sweep-n.ensures in
+    let s₃ = after_unreachable c.args.code.now s₂ c.sweep-n-2.ensures in
+    stage_below s₃
 
-pub remove_redundant_consecutive_loads-requires : goal.remove_redundant_consecutive_loads-requires
-remove_redundant_consecutive_loads-requires c =
-    stage_listed (stage₄ c.args.code.now c.args.list.now c.requires.0 c.fill.ensures c.remove_duplicate_consecutive_labels-n.ensures c.remove_unreachable_until_label-n.ensures c.remove_noop_jumps-n.ensures)
+pub slice_bounds-sweep-end-7 : goal.slice_bounds-sweep-end-7
+slice_bounds-sweep-end-7 c =
+    let s₁ = stage_start (length c.args.code.now / 16) c.args.list.now c.requires.0 c.fill.ensures in
+    let s₂ = after_labels c.args.code.now s₁ c.sweep-n.ensures in
+    let s₃ = after_unreachable c.args.code.now s₂ c.sweep-n-2.ensures in
+    let s₄ = after_jumps c.args.code.now s₃ c.sweep-n-3.ensures in
+    stage_room s₄
+
+pub slice_bounds-sweep-end-8 : goal.slice_bounds-sweep-end-8
+slice_bounds-sweep-end-8 c =
+    let s₁ = stage_start (length c.args.code.now / 16) c.args.list.now c.requires.0 c.fill.ensures in
+    let s₂ = after_labels c.args.code.now s₁ c.sweep-n.ensures in
+    let s₃ = after_unreachable c.args.code.now s₂ c.sweep-n-2.ensures in
+    let s₄ = after_jumps c.args.code.now s₃ c.sweep-n-3.ensures in
+    stage_taken s₄
+
+pub sweep-requires : goal.sweep-requires
+sweep-requires c =
+    let s₁ = stage_start (length c.args.code.now / 16) c.args.list.now c.requires.0 c.fill.ensures in
+    let s₂ = after_labels c.args.code.now s₁ c.sweep-n.ensures in
+    let s₃ = after_unreachable c.args.code.now s₂ c.sweep-n-2.ensures in
+    let s₄ = after_jumps c.args.code.now s₃ c.sweep-n-3.ensures in
+    stage_below s₄
 
 pub returns : goal.returns
 returns c =
-    let see = see_at c.args.code.now in
-    let s = stage₄ c.args.code.now c.args.list.now c.requires.0 c.fill.ensures c.remove_duplicate_consecutive_labels-n.ensures c.remove_unreachable_until_label-n.ensures c.remove_noop_jumps-n.ensures in
-    let z = stage_next s (remove_redundant_consecutive_loads see) (sub_sweep see removable_load removable_load) c.remove_redundant_consecutive_loads.ensures in
-    record { list = z.is; count = z.count }
+    let s₁ = stage_start (length c.args.code.now / 16) c.args.list.now c.requires.0 c.fill.ensures in
+    let s₂ = after_labels c.args.code.now s₁ c.sweep-n.ensures in
+    let s₃ = after_unreachable c.args.code.now s₂ c.sweep-n-2.ensures in
+    let s₄ = after_jumps c.args.code.now s₃ c.sweep-n-3.ensures in
+    let s₅ = after_loads c.args.code.now s₄ c.sweep.ensures in
+    record { list = s₅.is; count = s₅.count }

@@ -1,16 +1,13 @@
 -- `cleanup::sweeps::sweep` meets its contract.
 use mathlib.Core.Path.{◌≡◌}
-use Prim.Native.Nat.{◌-◌}
-use lib.ListN.{take}
-use Rattle.cells.specs.Spans.{part}
+use lib.ListN.{length, drop}
 use Rattle.cells.proofs.Going.{Going}
-use Rattle.cleanup.specs.ByKind.{sweep_by, seen_next, stays_by}
-use Rattle.cleanup.specs.Positions.{see_at}
-use Rattle.cleanup.specs.Reading.{key_of, seen_at}
+use Rattle.cleanup.specs.ByState.{seen_next, stays_by}
+use Rattle.cleanup.specs.Reading.{seen_at}
 use Rattle.cleanup.proofs.sweeps.sweep.Given as goal
 
 abbrev pub invariant-loop-i : goal.invariant-loop-i
-invariant-loop-i l = Going l.initial.list l.n (sweep_by (see_at l.code) l.kind (take l.n l.initial.list)) (stays_by (seen_at l.code) l.kind (key_of l.state) (part l.initial.list l.i l.n)) l.list l.i l.kept × (l.next ≡ seen_next (seen_at l.code) (part l.initial.list l.i l.n))
-
-abbrev pub decreases-loop-i : goal.decreases-loop-i
-decreases-loop-i l = l.n - l.i
+invariant-loop-i g l =
+    let stays = stays_by (seen_at l.code) g.S.Rule.goes_of g.S.Rule.after_of in
+    Going l.initial.list (length l.initial.list) (stays l.fn.rule l.initial.list) (stays l.rule (drop l.i l.initial.list)) l.list l.i l.kept
+    × (l.here ≡ seen_next (seen_at l.code) (drop l.i l.initial.list))

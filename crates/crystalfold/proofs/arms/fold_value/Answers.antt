@@ -1,12 +1,9 @@
 -- `arms::fold_value` meets its contract: an arm for each command that every rule set has, in the default table's order, then for each that only the
 -- fuller rules have. DivF64 has a meaning of its own in each.
 use mathlib.Core.Path.{◌≡◌, refl, ◌∙◌}
-use mathlib.Core.Option.{Option, none, some}
 use mathlib.Core.List.{List, [], ◌∷◌, ◌++◌, map}
 use Prim.Native.Nat.{ℕ}
 use Rattle.leaves.specs.declared.constant.ConstVal.{ConstVal}
-use Rattle.leaves.specs.declared.verdict.Verdict.{Verdict}
-use Rattle.leaves.specs.declared.verdict.Verdict.TheVariants.{NotComputed}
 use Rattle.cells.proofs.Matches.{Missed, singly}
 use Rattle.machine.specs.Evaluate.{Meaning, two_f64, Means, evaluate}
 use Rattle.crystalfold.specs.declared.rules.RuleSet.{RuleSet}
@@ -16,51 +13,54 @@ use Rattle.crystalfold.specs.Arms.{only_fuller, division_of, Choice, choice}
 use Rattle.crystalfold.proofs.Meanings.{not_chosen}
 use Rattle.crystalfold.proofs.arms.fold_value.Goals as goal
 use Rattle.crystalfold.proofs.arms.fold_value.Goals.{Start}
+use Rattle.std.specs.Prelude.{Err, Option, None, Some}
+use Rattle.leaves.specs.Verdict.{Verdict}
+use Rattle.leaves.specs.declared.verdict.Decline.TheVariants.{NotComputed}
 
 -- ---- a command that every rule set has with one meaning, or with its own; one that only the fuller rules have; one that none has
-in_both : (s : RuleSet) (o : ℕ) (m : Meaning) → default_rules o ≡ some m → fuller_rules o ≡ some m → rules_of s o ≡ some m
+in_both : (s : RuleSet) (o : ℕ) (m : Meaning) → default_rules o ≡ Some m → fuller_rules o ≡ Some m → rules_of s o ≡ Some m
 in_both Default o m d f = d
 in_both Fuller o m d f = f
 
-division : (s : RuleSet) → rules_of s 0x25 ≡ some (two_f64 (division_of s))
+division : (s : RuleSet) → rules_of s 0x25 ≡ Some (two_f64 (division_of s))
 unfolding default_rules default_table fuller_rules fuller_table
 division Default = refl
 division Fuller = refl
 
-only-fuller : (s : RuleSet) (o : ℕ) (m : Meaning) → default_rules o ≡ none → fuller_rules o ≡ some m → (l r : ConstVal)
-    → only_fuller s (evaluate (some m) l r) ≡ evaluate (rules_of s o) l r
+only-fuller : (s : RuleSet) (o : ℕ) (m : Meaning) → default_rules o ≡ None → fuller_rules o ≡ Some m → (l r : ConstVal)
+    → only_fuller s (evaluate (Some m) l r) ≡ evaluate (rules_of s o) l r
 only-fuller Default o m d f l r = rw d
 only-fuller Fuller o m d f l r = rw f
 
 abbrev choices : List Means → List (Choice (Option Meaning))
-choices ms = map (λ (m : Means). choice m.command (some m.meaning)) ms
+choices ms = map (λ (m : Means). choice m.command (Some m.meaning)) ms
 
 abbrev arms : List (List ℕ)
 arms = singly (map (λ (m : Means). m.command) default_table ++ 0x41 ∷ 0x42 ∷ 0x43 ∷ 0x44 ∷ [])
 
-in_none : (s : RuleSet) (o : ℕ) → Missed arms o → rules_of s o ≡ none
+in_none : (s : RuleSet) (o : ℕ) → Missed arms o → rules_of s o ≡ None
 unfolding default_rules default_table fuller_rules fuller_table
-in_none Default o m = not_chosen none arms (choices default_table) o m refl
-in_none Fuller o m = not_chosen none arms (choices fuller_table) o m refl
+in_none Default o m = not_chosen None arms (choices default_table) o m refl
+in_none Fuller o m = not_chosen None arms (choices fuller_table) o m refl
 
 -- ---- what an arm answers
 module _ (c : Start) (r : Verdict) where
-  folds : (o : ℕ) (m : Meaning) → c.args.op ≡ o → default_rules o ≡ some m → fuller_rules o ≡ some m
-      → r ≡ evaluate (some m) c.args.left c.args.right
+  folds : (o : ℕ) (m : Meaning) → c.args.op ≡ o → default_rules o ≡ Some m → fuller_rules o ≡ Some m
+      → r ≡ evaluate (Some m) c.args.left c.args.right
       → r ≡ evaluate (rules_of c.args.rules c.args.op) c.args.left c.args.right
   folds o m k d f e = rw (k, in_both c.args.rules o m d f) e
 
   folds_division : c.args.op ≡ 0x25
-      → r ≡ evaluate (some (two_f64 (division_of c.args.rules))) c.args.left c.args.right
+      → r ≡ evaluate (Some (two_f64 (division_of c.args.rules))) c.args.left c.args.right
       → r ≡ evaluate (rules_of c.args.rules c.args.op) c.args.left c.args.right
   folds_division k e = rw (k, division c.args.rules) e
 
-  folds-truth : (o : ℕ) (m : Meaning) → c.args.op ≡ o → default_rules o ≡ none → fuller_rules o ≡ some m
-      → r ≡ only_fuller c.args.rules (evaluate (some m) c.args.left c.args.right)
+  folds-truth : (o : ℕ) (m : Meaning) → c.args.op ≡ o → default_rules o ≡ None → fuller_rules o ≡ Some m
+      → r ≡ only_fuller c.args.rules (evaluate (Some m) c.args.left c.args.right)
       → r ≡ evaluate (rules_of c.args.rules c.args.op) c.args.left c.args.right
   folds-truth o m k d f e = rw k (e ∙ only-fuller c.args.rules o m d f c.args.left c.args.right)
 
-leaves-rest : (c : Start) → Missed arms c.args.op → NotComputed ≡ evaluate (rules_of c.args.rules c.args.op) c.args.left c.args.right
+leaves-rest : (c : Start) → Missed arms c.args.op → Err NotComputed ≡ evaluate (rules_of c.args.rules c.args.op) c.args.left c.args.right
 leaves-rest c m = rw (in_none c.args.rules c.args.op m)
 
 pub returns-in-17 : goal.returns-in-17

@@ -58,13 +58,13 @@ pub returns-in-LoadF64 : goal.returns-in-LoadF64
 returns-in-LoadF64 c = is_load (goal.at.returns-in-LoadF64 c).After-class_of c.in-LoadF64.is refl (ap F64 (c.of_bits.ensures ∙ ap float_of c.long.ensures))
 
 pub returns-in-LoadI32 : goal.returns-in-LoadI32
-returns-in-LoadI32 c = is_load (goal.at.returns-in-LoadI32 c).After-class_of c.in-LoadI32.is refl (ap I32 (search rules ∙ c.of_bits-in-LoadI32.ensures ∙ ap (to_z w32) c.word.ensures.0))
+returns-in-LoadI32 c = is_load (goal.at.returns-in-LoadI32 c).After-class_of c.in-LoadI32.is refl (ap I32 (search rules ∙ c.cast_signed.ensures ∙ ap (to_z w32) c.word.ensures.0))
 
 pub returns-in-LoadU32 : goal.returns-in-LoadU32
 returns-in-LoadU32 c = is_load (goal.at.returns-in-LoadU32 c).After-class_of c.in-LoadU32.is refl (ap U32 c.word-in-LoadU32.ensures.0)
 
 pub returns-in-LoadFx : goal.returns-in-LoadFx
-returns-in-LoadFx c = is_load (goal.at.returns-in-LoadFx c).After-class_of c.in-LoadFx.is refl (ap Fx (search rules ∙ c.of_bits-in-LoadFx.ensures ∙ ap (to_z w32) c.word-in-LoadFx.ensures.0))
+returns-in-LoadFx c = is_load (goal.at.returns-in-LoadFx c).After-class_of c.in-LoadFx.is refl (ap Fx (search rules ∙ c.cast_signed-in-LoadFx.ensures ∙ ap (to_z w32) c.word-in-LoadFx.ensures.0))
 
 pub returns-in-Unary : goal.returns-in-Unary
 returns-in-Unary c = is_compute (goal.at.returns-in-Unary c).After-class_of c.in-Unary.is refl c.half.ensures.0 c.half-in-Unary.ensures.0

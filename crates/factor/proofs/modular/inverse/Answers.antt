@@ -8,4 +8,4 @@ pub returns : goal.returns
 unfolding inverse_of
 returns c =
     let next : ℕ → ℕ = newton_step c.args.a in
-    (c.step-5.ensures.0 ∙ ap next (c.step-4.ensures.0 ∙ ap next (c.step-3.ensures.0 ∙ ap next (c.step-2.ensures.0 ∙ ap next c.step.ensures.0))), c.step-5.ensures.1)
+    c.step-5.ensures ∙ ap next (c.step-4.ensures ∙ ap next (c.step-3.ensures ∙ ap next (c.step-2.ensures ∙ ap next c.step.ensures)))

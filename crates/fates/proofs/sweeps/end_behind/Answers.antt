@@ -12,10 +12,10 @@ use Rattle.fates.proofs.sweeps.end_behind.Goals.{After-is_terminal}
 read : (t : After-is_terminal) → t.is_terminal.result ≡ terminal (see_at t.args.code.now t.args.at)
 read t =
     let a = t.args in
-    t.is_terminal.ensures ∙ ap (λ (s : Seen). is_terminal s.mark) t.seen_at-cell.ensures ∙ (read_at a.code.now a.at).ends
+    t.is_terminal.ensures ∙ ap (λ (s : Seen). is_terminal s.mark) t.at-cell.ensures ∙ (read_at a.code.now a.at).ends
 
-pub returns-then-kind-is_terminal : goal.returns-then-kind-is_terminal
-returns-then-kind-is_terminal c = rw (← read (goal.at.returns-then-kind-is_terminal c).After-is_terminal, c.if-kind-is_terminal.true)
+pub returns-then-is_reached-is_terminal : goal.returns-then-is_reached-is_terminal
+returns-then-is_reached-is_terminal c = rw (← c.is_reached.ensures, ← read (goal.at.returns-then-is_reached-is_terminal c).After-is_terminal, c.if-is_reached-is_terminal.true)
 
-pub returns-else-kind-is_terminal : goal.returns-else-kind-is_terminal
-returns-else-kind-is_terminal c = rw (← read (goal.at.returns-else-kind-is_terminal c).After-is_terminal, c.if-kind-is_terminal.false)
+pub returns-else-is_reached-is_terminal : goal.returns-else-is_reached-is_terminal
+returns-else-is_reached-is_terminal c = rw (← c.is_reached.ensures, ← read (goal.at.returns-else-is_reached-is_terminal c).After-is_terminal, c.if-is_reached-is_terminal.false)

@@ -1,60 +1,67 @@
--- `constant::const_eq` meets its contract, kind by kind: b is of another, then of a's.
-use Rattle.std.proofs.Common.{sym, ◌∙◌}
-use Rattle.leaves.specs.Signed.{same_z}
+-- `constant::const_eq` meets its contract, kind by kind.
+use Rattle.std.proofs.Common.{rules, sym, ◌∙◌, SFits, w32}
 use Rattle.leaves.specs.Constants.{const_eq}
-use Rattle.leaves.proofs.Ranges.{passed}
-use Rattle.leaves.proofs.Others.{not_quad, not_bool, not-f64, not-i32, not-u32, not-fx}
-use borrow.Enum.Refused.{opened}
+use Rattle.leaves.proofs.Ranges.{same_bits}
+use Rattle.leaves.proofs.ByKind.{on_quad-other, on_bool-other, on_f64-other, on_i32-other, on_u32-other, on_fx-other, sameb-quads}
 use Rattle.leaves.proofs.constant.const_eq.Goals as goal
 
+pub returns-in-Quad-Quad : goal.returns-in-Quad-Quad
+unfolding const_eq
+returns-in-Quad-Quad c = let d = c.in-Quad-Quad in c.eq.ensures ∙ sameb-quads _ _ ∙ simp (d.is-0, d.is-1)
+
+pub returns-in-Bool-Bool : goal.returns-in-Bool-Bool
+unfolding const_eq
+returns-in-Bool-Bool c = let d = c.in-Bool-Bool in simp (d.is-0, d.is-1)
+
+pub returns-in-F64-F64 : goal.returns-in-F64-F64
+unfolding const_eq
+returns-in-F64-F64 c = let d = c.in-F64-F64 in simp (d.is-0, d.is-1)
+
+pub returns-in-U32-U32 : goal.returns-in-U32-U32
+unfolding const_eq
+returns-in-U32-U32 c = let d = c.in-U32-U32 in simp (d.is-0, d.is-1)
+
+pub returns-in-I32-I32 : goal.returns-in-I32-I32
+unfolding const_eq
+returns-in-I32-I32 c =
+    let d = c.in-I32-I32 in
+    let h : SFits w32 d.x = search rules in
+    let k : SFits w32 d.y = search rules in
+    same_bits _ _ h k ∙ simp (d.is-0, d.is-1)
+
+pub returns-in-Fx-Fx : goal.returns-in-Fx-Fx
+unfolding const_eq
+returns-in-Fx-Fx c =
+    let d = c.in-Fx-Fx in
+    let h : SFits w32 d.x = search rules in
+    let k : SFits w32 d.y = search rules in
+    same_bits _ _ h k ∙ simp (d.is-0, d.is-1)
+
+-- values of two kinds
 pub returns-in_default : goal.returns-in_default
 unfolding const_eq
-returns-in_default c = simp c.in-Quad.is (sym (not_quad c.args.b _ _ (opened c.in_default.in_default-own.keys2)))
+returns-in_default c = let d = c.in_default in simp d.is-0 (sym (on_quad-other c.args.b _ _ d.not-Quad-1))
 
-pub returns-in_default-b : goal.returns-in_default-b
+pub returns-in_default-2 : goal.returns-in_default-2
 unfolding const_eq
-returns-in_default-b c = simp c.in-Bool.is (sym (not_bool c.args.b _ _ (opened c.in_default-b.in_default-b-own.keys2)))
+returns-in_default-2 c = let d = c.in_default in simp d.is-0 (sym (on_bool-other c.args.b _ _ d.not-Bool-1))
 
-pub returns-in_default-b-2 : goal.returns-in_default-b-2
+pub returns-in_default-3 : goal.returns-in_default-3
 unfolding const_eq
-returns-in_default-b-2 c = simp c.in-F64.is (sym (not-f64 c.args.b _ _ (opened c.in_default-b-2.in_default-b-2-own.keys2)))
+returns-in_default-3 c = let d = c.in_default in simp d.is-0 (sym (on_f64-other c.args.b _ _ d.not-F64-1))
 
-pub returns-in_default-b-3 : goal.returns-in_default-b-3
+pub returns-in_default-4 : goal.returns-in_default-4
 unfolding const_eq
-returns-in_default-b-3 c = simp c.in-I32.is (sym (not-i32 c.args.b _ _ (opened c.in_default-b-3.in_default-b-3-own.keys2)))
+returns-in_default-4 c = let d = c.in_default in simp d.is-0 (sym (on_i32-other c.args.b _ _ d.not-I32-1))
 
-pub returns-in_default-b-4 : goal.returns-in_default-b-4
+pub returns-in_default-5 : goal.returns-in_default-5
 unfolding const_eq
-returns-in_default-b-4 c = simp c.in-U32.is (sym (not-u32 c.args.b _ _ (opened c.in_default-b-4.in_default-b-4-own.keys2)))
+returns-in_default-5 c = let d = c.in_default in simp d.is-0 (sym (on_u32-other c.args.b _ _ d.not-U32-1))
 
-pub returns-in_default-b-5 : goal.returns-in_default-b-5
+pub returns-in_default-6 : goal.returns-in_default-6
 unfolding const_eq
-returns-in_default-b-5 c = simp c.in-Fx.is (sym (not-fx c.args.b _ _ (opened c.in_default-b-5.in_default-b-5-own.keys2)))
+returns-in_default-6 c = let d = c.in_default in simp d.is-0 (sym (on_fx-other c.args.b _ _ d.not-Fx-1))
 
-pub returns-in-Unknown : goal.returns-in-Unknown
+pub returns-in_default-7 : goal.returns-in_default-7
 unfolding const_eq
-returns-in-Unknown c = simp c.in-Unknown.is
-
-pub returns-in-Quad-b : goal.returns-in-Quad-b
-unfolding const_eq
-returns-in-Quad-b c = c.same.ensures ∙ simp (c.in-Quad.is, c.in-Quad-b.is)
-
-pub returns-in-Bool-b : goal.returns-in-Bool-b
-unfolding const_eq
-returns-in-Bool-b c = simp (c.in-Bool.is, c.in-Bool-b.is)
-
-pub returns-in-F64-b : goal.returns-in-F64-b
-unfolding const_eq
-returns-in-F64-b c = c.eq_f64.ensures ∙ simp (c.in-F64.is, c.in-F64-b.is)
-
-pub returns-in-I32-b : goal.returns-in-I32-b
-unfolding const_eq
-returns-in-I32-b c = simp (c.in-I32.is, c.in-I32-b.is) (c.eq_i32.ensures ∙ passed same_z c.in-I32.x c.in-I32-b.y c.in-I32.known_told-in-I32-1-own.given.0.1 c.in-I32-b.known_told-in-I32-1-own.given.0.1)
-
-pub returns-in-U32-b : goal.returns-in-U32-b
-unfolding const_eq
-returns-in-U32-b c = simp (c.in-U32.is, c.in-U32-b.is)
-
-pub returns-in-Fx-b : goal.returns-in-Fx-b
-unfolding const_eq
-returns-in-Fx-b c = simp (c.in-Fx.is, c.in-Fx-b.is) (c.eq_i32-in-Fx.ensures ∙ passed same_z c.in-Fx.x c.in-Fx-b.y c.in-Fx.known_told-in-Fx-1-own.given.0.1 c.in-Fx-b.known_told-in-Fx-1-own.given.0.1)
+returns-in_default-7 c = simp c.in_default.is-0

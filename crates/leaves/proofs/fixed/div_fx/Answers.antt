@@ -1,37 +1,36 @@
 -- `fixed::div_fx` meets its contract: at 64 bits the scaled operand is exact.
-use Rattle.std.proofs.Common.{ℤ, ◌*ℤ◌, sym, ap, ◌∙◌, subst, ap₂, arith, w64, SFits}
-use lib.Signed.{quot_z}
+use Rattle.std.proofs.Common.{◌≡◌, ℤ, ◌*ℤ◌, ap, ◌∙◌, ap₂, arith, w64, of_z, to_z}
+use Rattle.std.specs.Prelude.{int_div}
 use Rattle.leaves.specs.declared.constant.ConstVal.TheVariants.{Fx}
 use Rattle.leaves.specs.Fixed.{fx_scale, div_fx}
 use Rattle.leaves.proofs.Integers.{kept64}
-use Rattle.leaves.proofs.Ranges.{small, scaled_small, scaled_quotient, widened, exact, divisor, zero_bits, nonzero_bits}
+use Rattle.leaves.proofs.Ranges.{small, scaled_small, scaled_quotient, widened, zero_bits, nonzero_bits}
+use Rattle.leaves.proofs.Checked.{narrowed, not_narrowed}
 use Rattle.leaves.proofs.fixed.div_fx.Goals as goal
-use Rattle.leaves.proofs.fixed.div_fx.Goals.{After-wide}
+use Rattle.leaves.proofs.fixed.div_fx.Goals.{After-try_from}
 
 pub returns-then-b-eq0 : goal.returns-then-b-eq0
 unfolding div_fx
 returns-then-b-eq0 c = simp (zero_bits c.args.b c.ranges.b c.if-b-eq0.true)
 
--- the scaled operand
-scaled : (c : After-wide) → SFits w64 (c.args.a *ℤ fx_scale)
-scaled c = small _ (scaled_small c.args.a c.ranges.a (omega arith))
+exact : (c : After-try_from)
+    → to_z w64 (of_z w64 (int_div (to_z w64 (of_z w64 (to_z w64 (of_z w64 c.from.result) *ℤ fx_scale))) (to_z w64 (of_z w64 c.from-2.result))))
+    ≡ int_div (c.args.a *ℤ fx_scale) c.args.b
+exact c =
+    let fits = c.ranges in
+    kept64 (scaled_quotient c.args.a c.args.b fits.a (omega arith))
+    (ap₂ int_div
+    (kept64 (small _ (scaled_small c.args.a fits.a (omega arith))) (ap (λ (z : ℤ). z *ℤ fx_scale) (widened fits.a c.from.ensures)))
+    (widened fits.b c.from-2.ensures))
 
-pub overflow_mul-wide : goal.overflow_mul-wide
-overflow_mul-wide c = subst (λ (z : ℤ). SFits w64 (z *ℤ fx_scale)) (sym (widened c.ranges.a c.wide.ensures)) (scaled c)
-
-pub nonzero_div-wide : goal.nonzero_div-wide
-nonzero_div-wide c =
-    let start = c in
-    let e = kept64 (scaled (goal.at.nonzero_div-wide c).After-wide) (ap (λ (z : ℤ). z *ℤ fx_scale) (widened start.ranges.a c.wide.ensures)) in (
-      divisor start.ranges.b c.wide-2.ensures c.if-b-eq0.false,
-      subst (SFits w64) (sym (ap₂ quot_z e (widened start.ranges.b c.wide-2.ensures))) (scaled_quotient start.args.a start.args.b start.ranges.a (omega arith)),
-    )
+pub returns-in_err-z : goal.returns-in_err-z
+unfolding div_fx
+returns-in_err-z c =
+    not_narrowed Fx _ (exact (goal.at.returns-in_err-z c).After-try_from) c.in_err-z.ensures c.from_residual.ensures.1
+    ∙ simp (nonzero_bits c.args.b c.ranges.b c.if-b-eq0.false).0
 
 pub returns : goal.returns
 unfolding div_fx
 returns c =
-    let start = c in
-    let e = kept64 (scaled (goal.at.returns c).After-wide) (ap (λ (z : ℤ). z *ℤ fx_scale) (widened start.ranges.a c.wide.ensures)) in
-    c.checked_fx.ensures
-    ∙ exact Fx _ _ (nonzero_div-wide c.before).1 (ap₂ quot_z e (widened start.ranges.b c.wide-2.ensures))
-    ∙ simp (nonzero_bits start.args.b start.ranges.b c.if-b-eq0.false).0
+    narrowed Fx (exact (goal.at.returns c).After-try_from) c.in_ok-z.ensures
+    ∙ simp (nonzero_bits c.args.b c.ranges.b c.if-b-eq0.false).0

@@ -1,16 +1,11 @@
 -- `float::to_bits` meets its contract.
-use Rattle.std.proofs.Common.{sym, refl, ap}
-use lib.Ieee
+use Rattle.std.proofs.Common.{sym, refl, ◌∙◌}
 use Rattle.leaves.specs.Float.{bits_of}
-use Rattle.leaves.proofs.Floats.{differs, not_nan}
+use Rattle.leaves.proofs.Floats.{nan_pattern}
 use Rattle.leaves.proofs.float.to_bits.Goals as goal
 
-pub returns-then-x : goal.returns-then-x
-unfolding bits_of Ieee.to_bits
-returns-then-x c = sym (ap bits_of (differs c.args.x c.if-x.true))
-
-pub float_to_bits-result : goal.float_to_bits-result
-float_to_bits-result c = not_nan c.args.x c.if-x.false
+pub returns-then-is_nan : goal.returns-then-is_nan
+returns-then-is_nan c = sym (nan_pattern c.args.x (sym c.is_nan.ensures.value ∙ c.if-is_nan.true))
 
 pub returns : goal.returns
 unfolding bits_of

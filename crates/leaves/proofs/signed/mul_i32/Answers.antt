@@ -1,17 +1,10 @@
--- `signed::mul_i32` meets its contract: the bits of the product are those that the operation on bits gives.
-use Rattle.std.proofs.Common.{ℤ, ◌*ℤ◌, sym, to_z-of_z, w32, SFits}
+-- `signed::mul_i32` meets its contract.
+use Rattle.std.proofs.Common.{w32}
+use Rattle.std.proofs.lemmas.Int.{wrapping_mul_is}
 use Rattle.leaves.specs.Signed.{mul_i32}
-use Rattle.leaves.proofs.Integers.{residue_mul, wrapped}
+use Rattle.leaves.proofs.Integers.{wrapped}
 use Rattle.leaves.proofs.signed.mul_i32.Goals as goal
 
 pub returns : goal.returns
 unfolding mul_i32
-returns c =
-    let start = c in
-    let a : ℤ = start.args.a in
-    let b : ℤ = start.args.b in
-    let h : SFits w32 a = start.ranges.a in
-    let k : SFits w32 b = start.ranges.b in
-    wrapped _ (a *ℤ b) c.wrapping_mul_u32.result c.of_bits.type_inv c.of_bits.ensures
-    (simp (c.wrapping_mul_u32.ensures, c.bits_of-2.ensures, c.bits_of.ensures, to_z-of_z h, to_z-of_z k)
-    (sym (residue_mul a b h k)))
+returns c = wrapped _ (wrapping_mul_is w32 c.args.a c.args.b c.ranges.a c.ranges.b)

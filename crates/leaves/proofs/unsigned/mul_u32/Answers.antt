@@ -1,16 +1,13 @@
 -- `unsigned::mul_u32` meets its contract.
+use Rattle.std.proofs.Common.{arith, lt-ltb}
+use Rattle.leaves.specs.declared.constant.ConstVal.TheVariants.{U32}
+use Rattle.leaves.specs.declared.verdict.Decline.TheVariants.{OutOfRange}
 use Rattle.leaves.specs.Unsigned.{mul_u32}
-use Rattle.std.proofs.Common.{rules, le-ltb, lt-ltb}
-use Rattle.leaves.proofs.Product.{below}
+use Rattle.leaves.proofs.Checked.{checked}
 use Rattle.leaves.proofs.unsigned.mul_u32.Goals as goal
-
-pub overflow_mul-wide : goal.overflow_mul-wide
-overflow_mul-wide c = record { fits = below 32 (search rules) (search rules) }
-
-pub returns-then-wide-lt4294967296 : goal.returns-then-wide-lt4294967296
-unfolding mul_u32
-returns-then-wide-lt4294967296 c = simp (lt-ltb _ _ c.if-wide-lt4294967296.true)
 
 pub returns : goal.returns
 unfolding mul_u32
-returns c = simp (le-ltb _ _ c.if-wide-lt4294967296.false)
+returns c =
+    checked U32 OutOfRange _ _ _ _ _ c.checked_mul.ensures c.map.ensures.cases c.ok_or.ensures.value
+    (λ l. lt-ltb _ _ l) (λ n. grind arith)

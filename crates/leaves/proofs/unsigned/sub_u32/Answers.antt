@@ -1,13 +1,13 @@
 -- `unsigned::sub_u32` meets its contract.
+use Rattle.std.proofs.Common.{arith, le-leb}
+use Rattle.leaves.specs.declared.constant.ConstVal.TheVariants.{U32}
+use Rattle.leaves.specs.declared.verdict.Decline.TheVariants.{OutOfRange}
 use Rattle.leaves.specs.Unsigned.{sub_u32}
-use Rattle.std.proofs.Common.{le-leb}
-use borrow.Author.Tests.{lt-leb}
+use Rattle.leaves.proofs.Checked.{checked}
 use Rattle.leaves.proofs.unsigned.sub_u32.Goals as goal
-
-pub returns-then-b-a : goal.returns-then-b-a
-unfolding sub_u32
-returns-then-b-a c = simp (le-leb _ _ c.if-b-a.true)
 
 pub returns : goal.returns
 unfolding sub_u32
-returns c = simp (lt-leb _ _ c.if-b-a.false)
+returns c =
+    checked U32 OutOfRange _ _ _ _ _ c.checked_sub.ensures c.map.ensures.cases c.ok_or.ensures.value
+    (λ l. le-leb _ _ l) (λ n. grind arith)

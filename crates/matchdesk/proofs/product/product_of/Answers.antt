@@ -1,4 +1,3 @@
--- `matchdesk::product::product_of` meets its contract.
 use mathlib.Core.Path.{sym, ◌∙◌}
 use Rattle.matchdesk.specs.Program.{fx_word, i32_word, product_for}
 use Rattle.matchdesk.proofs.Words.{same_test}

@@ -11,12 +11,12 @@ use Rattle.packed.proofs.keep.keep_cells.Goals as goal
 use Rattle.packed.proofs.keep.keep_cells.Goals.{After-slice_known-in-loop-i-1}
 
 pub loop-i-init : goal.loop-i-init
-loop-i-init c = (omega arith, refl, omega arith, keeping_none c.args.image.now c.args.out.now c.requires.1)
+loop-i-init c = (refl, omega arith, keeping_none c.args.image.now c.args.out.now c.requires.1)
 
 pub next_cell-next-requires : goal.next_cell-next-requires
 next_cell-next-requires c =
     let l = c.loop-i in
-    in_kept (role_of (promise l.code l.events)) c.args.image.now l.i c.loop-i-test.true
+    in_kept (role_of (promise l.due.code l.due.events)) c.args.image.now l.i c.loop-i-test.true
 
 pub put_kept-requires : goal.put_kept-requires
 put_kept-requires c =
@@ -26,10 +26,10 @@ put_kept-requires c =
     let o = a.out.now in
     let h = c.loop-i-test.true in
     let n = c.next_cell-next in
-    let r = keeping_room s o l.out l.code l.events l.at l.i l.invariant.3 (cell_in s l.i) n.result h (in_cells s l.i h) (in_full s l.i h) n.ensures in
-    let w = keeping_whole s o l.out l.code l.events l.at l.i l.invariant.3 (cell_in s l.i) n.result h (in_cells s l.i h) (in_full s l.i h) n.ensures in (
+    let r = keeping_room s o l.out l.due.code l.due.events l.at l.i l.invariant.2 (cell_in s l.i) n.result h (in_cells s l.i h) (in_full s l.i h) n.ensures in
+    let w = keeping_whole s o l.out l.due.code l.due.events l.at l.i l.invariant.2 (cell_in s l.i) n.result h (in_cells s l.i h) (in_full s l.i h) n.ensures in (
       in_full s l.i h,
-      omega (arith, n.ensures.keeps, size_fits (role_of (promise l.code l.events)) (cell_in s l.i)),
+      omega (arith, n.ensures.keeps, size_fits (role_of (promise l.due.code l.due.events)) (cell_in s l.i)),
       rw (rest_is l.out l.at) (omega (arith, r, length-drop l.at l.out)),
       rw (rest_is l.out l.at) w,
     )
@@ -42,7 +42,7 @@ room c =
     let s = a.image.now in
     let h = c.loop-i-test.true in
     let n = c.next_cell-next in
-    keeping_room s a.out.now l.out l.code l.events l.at l.i l.invariant.3 (cell_in s l.i) n.result h (in_cells s l.i h) (in_full s l.i h) n.ensures
+    keeping_room s a.out.now l.out l.due.code l.due.events l.at l.i l.invariant.2 (cell_in s l.i) n.result h (in_cells s l.i h) (in_full s l.i h) n.ensures
 
 pub overflow_add-at : goal.overflow_add-at
 overflow_add-at c = omega (arith, room (goal.at.overflow_add-at c).After-slice_known-in-loop-i-1)
@@ -54,8 +54,8 @@ loop-i-preserved c =
     let s = a.image.now in
     let h = c.loop-i-test.true in
     let n = c.next_cell-next in
-    let k = keeping_next s a.out.now l.out l.code l.events l.at l.i l.invariant.3 (cell_in s l.i) n.result h (in_cells s l.i h) (in_full s l.i h) n.ensures _ c.put_kept.ensures in
-    (omega arith, k.long, k.within, k)
+    let k = keeping_next s a.out.now l.out l.due.code l.due.events l.at l.i l.invariant.2 (cell_in s l.i) n.result h (in_cells s l.i h) (in_full s l.i h) n.ensures _ c.put_kept.ensures in
+    (k.long, k.within, k)
 
 pub returns : goal.returns
-returns c = let l = c.loop-i in let a = c.args in keeping_end a.image.now a.out.now l.out l.code l.events l.at l.i l.invariant.3 c.loop-i-test.false
+returns c = let l = c.loop-i in let a = c.args in keeping_end a.image.now a.out.now l.out l.due.code l.due.events l.at l.i l.invariant.2 c.loop-i-test.false

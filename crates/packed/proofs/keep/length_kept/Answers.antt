@@ -20,34 +20,28 @@ count_next-next-requires c =
     let l = c.loop-i in
     let s = c.args.image.now in (
       in_full s l.i c.loop-i-test.true,
-      omega (arith, promised_there l.code l.events (drop l.i (cells s)) l.invariant.2.fine, length-drop l.i (cells s), length-cells s, ((image_good s).0 c.requires).short),
+      omega (arith, promised_there l.due.code l.due.events (drop l.i (cells s)) l.invariant.2.fine, length-drop l.i (cells s), length-cells s, ((image_good s).0 c.requires).short),
     )
 
 -- past what was counted
-next : (c : After-struct_known-1) → Counting c.args.image.now c.count_next-next.result.code c.count_next-next.result.events (c.loop-i.total + c.count_next-next.result.size) (c.loop-i.i + c.count_next-next.result.cells)
+next : (c : After-struct_known-1) → Counting c.args.image.now c.count_next-next.result.due.code c.count_next-next.result.due.events (c.loop-i.total + c.count_next-next.result.size) (c.loop-i.i + c.count_next-next.result.cells)
 next c =
     let l = c.loop-i in
     let s = c.args.image.now in
     let h = c.loop-i-test.true in
-    rw c.count_next-next.ensures (counting_turn s l.code l.events l.total l.i l.invariant.2 (cell_in s l.i) h (in_cells s l.i h))
+    rw c.count_next-next.ensures (counting_turn s l.due.code l.due.events l.total l.i l.invariant.2 (cell_in s l.i) h (in_cells s l.i h))
 
 there : (c : After-struct_known-1) → (c.loop-i.i + c.count_next-next.result.cells ≤ length c.args.image.now / 16) × (1 ≤ c.count_next-next.result.cells)
 there c =
     let l = c.loop-i in
     let s = c.args.image.now in
-    rw c.count_next-next.ensures (counted-there s l.code l.events l.total l.i l.invariant.2 (cell_in s l.i) c.loop-i-test.true)
+    rw c.count_next-next.ensures (counted-there s l.due.code l.due.events l.total l.i l.invariant.2 (cell_in s l.i) c.loop-i-test.true)
 
 pub returns : goal.returns
-returns c = let l = c.loop-i in counting_end c.args.image.now l.code l.events l.total l.i l.invariant.2 c.loop-i-test.false
+returns c = let l = c.loop-i in counting_end c.args.image.now l.due.code l.due.events l.total l.i l.invariant.2 c.loop-i-test.false
 
 pub overflow_add-total : goal.overflow_add-total
 overflow_add-total c = omega (arith, (next c).small, (there c).0)
-
-pub overflow_add-i : goal.overflow_add-i
-overflow_add-i c = omega (arith, (there (goal.at.overflow_add-i c).After-struct_known-1).0)
-
-pub loop-i-smaller : goal.loop-i-smaller
-loop-i-smaller c = omega (arith, (there (goal.at.loop-i-smaller c).After-struct_known-1).0, (there (goal.at.loop-i-smaller c).After-struct_known-1).1)
 
 pub loop-i-preserved : goal.loop-i-preserved
 loop-i-preserved c = let k = next (goal.at.loop-i-preserved c).After-struct_known-1 in ((there (goal.at.loop-i-preserved c).After-struct_known-1).0, k.small, k)

@@ -1,20 +1,13 @@
 -- `packed::put::put_cell` meets its contract.
-use mathlib.Core.Path.{ap, sym, ◌∙◌}
+use mathlib.Core.Path.{ap, ◌∙◌}
 use mathlib.Core.List.{List}
 use Prim.Native.Nat.{ℕ}
-use native.Mathlib.Omega.{arith}
-use lib.ListN.{take, length-take}
+use lib.ListN.{take}
 use lib.Seq.{length-take-le}
 use Rattle.cells.specs.Cells.{over}
 use Rattle.cells.proofs.Over.{copied}
 use Rattle.packed.proofs.Puts.{own_copy}
 use Rattle.packed.proofs.put.put_cell.Goals as goal
-
-pub slice_bounds-copy-end : goal.slice_bounds-copy-end
-slice_bounds-copy-end c = sym (length-take-le 16 c.args.s.now c.requires.0)
-
-pub copy-requires : goal.copy-requires
-copy-requires c = omega (arith, length-take 16 c.args.s.now)
 
 pub returns : goal.returns
 returns c =

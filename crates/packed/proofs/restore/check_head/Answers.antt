@@ -1,9 +1,9 @@
 -- `packed::restore::check_head` meets its contract.
+use Rattle.std.proofs.lemmas.Result.{err_from_is_err_and}
 use mathlib.Core.Path.{◌≡◌, refl, ap₂, sym, ◌∙◌}
 use Prim.Native.Nat.{ℕ, ◌+◌, ◌≤◌}
 use native.Mathlib.Omega.{arith}
 use lib.ListN.{length, take}
-use lib.Seq.{length-take-le}
 use Rattle.cells.specs.Check.{head_check}
 use Rattle.packed.specs.Form.{Head, size}
 use Rattle.packed.specs.Reading.{next_cell, cell_check}
@@ -16,15 +16,6 @@ pub returns-then-s-lt-HEAD_SIZE : goal.returns-then-s-lt-HEAD_SIZE
 returns-then-s-lt-HEAD_SIZE c =
     taken_cut Head c.args.position c.args.cell c.args.s.now c.requires refl (omega (arith, head-size c.args.s.now, c.if-s-lt-HEAD_SIZE.true))
 
-pub half-requires : goal.half-requires
-half-requires c = omega (arith, c.if-s-lt-HEAD_SIZE.false)
-
-pub half-requires-2 : goal.half-requires-2
-half-requires-2 c = c.if-s-lt-HEAD_SIZE.false
-
-pub check_head-checked-requires : goal.check_head-checked-requires
-check_head-checked-requires c = omega (arith, length-take-le 7 c.args.s.now c.if-s-lt-HEAD_SIZE.false)
-
 -- the check of the cell is that of its bytes
 checked : (c : After-half-2) → cell_check Head c.args.position c.args.cell (next_cell Head c.args.s.now)
     ≡ head_check c.args.position c.args.cell (c.half.result + c.half-2.result) (take 7 c.args.s.now)
@@ -35,15 +26,14 @@ checked c =
 fits : (c : After-half-2) → size Head c.args.s.now ≤ length c.args.s.now
 fits c = omega (arith, head-size c.args.s.now, c.if-s-lt-HEAD_SIZE.false)
 
-pub returns-in-Refused : goal.returns-in-Refused
-returns-in-Refused c =
+pub returns-in_err-check_head : goal.returns-in_err-check_head
+returns-in_err-check_head c =
     let a = c.args in
-    taken_refused Head a.position a.cell a.s.now refl (fits (goal.at.returns-in-Refused c).After-half-2) _ (checked (goal.at.returns-in-Refused c).After-half-2 ∙ sym c.check_head-checked.ensures ∙ c.in-Refused.is)
+    let p = err_from_is_err_and c.from_residual.result c.from_residual.ensures.1 in
+    rw (p.1, p.2)
+    (taken_refused Head a.position a.cell a.s.now refl (fits (goal.at.returns-in_err-check_head c).After-half-2) _ (checked (goal.at.returns-in_err-check_head c).After-half-2 ∙ sym c.check_head.ensures ∙ c.in_err-check_head.was))
 
 pub returns : goal.returns
 returns c =
     let a = c.args in
-    taken-good Head a.position a.cell a.s.now refl (fits (goal.at.returns c).After-half-2) 7 (sym (head-size a.s.now)) (checked (goal.at.returns c).After-half-2 ∙ sym c.check_head-checked.ensures ∙ c.in_default.is)
-
-pub slice_bounds-check_head-end : goal.slice_bounds-check_head-end
-slice_bounds-check_head-end c = sym (length-take-le 7 c.args.s.now c.if-s-lt-HEAD_SIZE.false)
+    taken-good Head a.position a.cell a.s.now refl (fits (goal.at.returns c).After-half-2) 7 (sym (head-size a.s.now)) (checked (goal.at.returns c).After-half-2 ∙ sym c.check_head.ensures ∙ c.in_ok-check_head.was)

@@ -10,7 +10,7 @@ use Rattle.packed.specs.Reading.{padded}
 use Rattle.packed.specs.Steps.{cells_of, sizes_of, put_restored}
 use Rattle.packed.proofs.Puts.{rest_is}
 use Rattle.packed.proofs.Turns.{Put-part}
-use Rattle.packed.proofs.Runs.{Restoring, restoring_none, restoring_end, Function-left, restoring_function, behind_head, behind_code, head-written, first_room, code_room, second_room, event_room, function-written}
+use Rattle.packed.proofs.Runs.{Restoring, restoring_none, Function-left, restoring_function, behind_head, behind_code, head-written, first_room, code_room, second_room, event_room, function-written}
 use Rattle.packed.proofs.restore.restore_cells.Goals as goal
 use Rattle.packed.proofs.restore.restore_cells.Goals.{After-half-events, After-slice_known-in-loop-to-2-1, After-slice_known-in-loop-to-3-1}
 
@@ -73,11 +73,6 @@ restore_code-at-requires c =
     let f = function_of (goal.at.restore_code-at-requires c).After-half-events in
     (rw (rest_is s (l.at + 7)) f.code_fits, code_room s l.out l.at l.to _ _ f _ (head_of (goal.at.restore_code-at-requires c).After-half-events))
 
-pub returns : goal.returns
-returns c =
-    let l = c.loop-to in
-    restoring_end c.args.packed.now l.out l.at l.to l.invariant.3 c.loop-to-test.false
-
 -- behind the instructions: how many bytes they took, and their cells
 module _ (s : List ℕ) (at n : ℕ) where
   took : {k : ℕ} → k ≡ sizes_of Code n (take (length s - (at + 7)) (drop (at + 7) s)) → k ≡ sizes_of Code n (behind_head s at)
@@ -119,17 +114,6 @@ past-all c =
     let n = c.half-code.result in
     let f = function s l.out l.at l.to l.invariant.3 c.loop-to-test.true _ _ c.half-code.ensures.0 c.half-events.ensures.0 in
     omega (arith, events-took c, took s l.at n c.restore_code-at.ensures.1, f.there, f.code_fits, f.event_fits, length-drop l.at s, length-drop (l.at + 7) s, length-drop (l.at + 7 + sizes_of Code n (behind_head s l.at)) s)
-
-pub loop-to-smaller : goal.loop-to-smaller
-loop-to-smaller c =
-    let s = c.args.packed.now in
-    let l = c.loop-to in
-    let n = c.half-code.result in
-    let f = function_of (goal.at.loop-to-smaller c).After-half-events in
-    let h = head_of (goal.at.loop-to-smaller c).After-half-events in
-    let k = function-written s l.out l.at l.to _ _ f _ h _ (code-cells s l.at n c.restore_code-at.ensures.0) _
-    (c.restore_events-at.ensures.0 ∙ ap (cells_of Event c.half-events.result) (events_at s l.at n _ c.restore_code-at.ensures.1)) in
-    omega (arith, k.0, f.room)
 
 pub loop-to-preserved : goal.loop-to-preserved
 loop-to-preserved c =

@@ -1,13 +1,10 @@
 -- `packed::restore::restore_events` meets its contract.
 use mathlib.Core.Path.{◌≡◌}
-use Prim.Native.Nat.{◌-◌, ◌≤◌}
+use Prim.Native.Nat.{◌≤◌}
 use lib.ListN.{length}
 use Rattle.packed.specs.Form.{Event}
 use Rattle.packed.proofs.Runs.{Running}
 use Rattle.packed.proofs.restore.restore_events.Given as goal
 
 abbrev pub invariant-loop-i : goal.invariant-loop-i
-invariant-loop-i l = (l.i ≤ l.n) × (length l.out ≡ length l.initial.out) × (l.at ≤ length l.s) × Running Event l.s l.out l.n l.at l.i
-
-abbrev pub decreases-loop-i : goal.decreases-loop-i
-decreases-loop-i l = l.n - l.i
+invariant-loop-i l = (length l.out ≡ length l.initial.out) × (l.at ≤ length l.s) × Running Event l.s l.out l.n l.at l.i

@@ -5,5 +5,5 @@ use Rattle.pages.proofs.line.put_cell.Goals as goal
 
 pub returns : goal.returns
 returns c =
-    let e = written-whole c.put_line.ensures (length-cell c.args.p c.args.position c.args.cell.now c.requires.1 c.requires.2) in
+    let e = written-whole c.put_line.ensures (length-cell c.args.p c.args.position c.args.cell.now c.requires.0 c.requires.1) in
     rw e at c.append.ensures

@@ -13,7 +13,7 @@ put_page-k-requires c =
     let a = c.args in
     let page = flat (new_page a.name a.position) in
     let line = cell_line a.p a.position a.cell.now in
-    omega (arith, c.requires.1.room, ap length (entry_text a.p a.name a.position a.cell.now), length-append page line)
+    omega (arith, c.requires.room, ap length (entry_text a.p a.name a.position a.cell.now), length-append page line)
 
 pub put_cell-requires : goal.put_cell-requires
 put_cell-requires c =
@@ -22,9 +22,9 @@ put_cell-requires c =
     let page = flat (new_page a.name a.position) in
     let line = cell_line a.p a.position a.cell.now in
     let n = ap length (entry_text a.p a.name a.position a.cell.now) in
-    let l = length-cell a.p a.position a.cell.now c.requires.1.listable c.requires.1.few in
-    let e = end_at_lem a.text.now page a.at u.result (omega (arith, c.requires.1.room)) u.ensures.end in
-    (c.requires.0, c.requires.1.listable, c.requires.1.few, omega (arith, e, n, l, length-append page line, c.requires.1.room, u.auto))
+    let l = length-cell a.p a.position a.cell.now c.requires.listable c.requires.few in
+    let e = end_at_lem a.text.now page a.at u.result (omega (arith, c.requires.room)) u.ensures.end in
+    (c.requires.listable, c.requires.few, omega (arith, e, n, l, length-append page line, c.requires.room, u.auto))
 
 pub returns : goal.returns
 returns c =

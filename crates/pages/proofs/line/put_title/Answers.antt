@@ -11,7 +11,7 @@ use Rattle.pages.proofs.line.put_title.Goals as goal
 pub append-b-requires : goal.append-b-requires
 append-b-requires c =
     let u = c.put_position-a in
-    omega (arith, u.ensures.end, length_position c.args.position c.requires.2, u.auto)
+    omega (arith, u.ensures.end, length_position c.args.position c.requires.1, u.auto)
 
 pub put_name-requires : goal.put_name-requires
 put_name-requires c =
@@ -19,7 +19,7 @@ put_name-requires c =
     let v = c.append-b in
     let w = written_next u.ensures (ascii "  ") v.ensures in
     let n = fill_left 5 (decimal c.args.position) in
-    (c.requires.0, c.requires.1, omega (arith, w.end, length-append n (ascii "  "), length_position c.args.position c.requires.2, u.auto, v.auto))
+    (c.requires.0, omega (arith, w.end, length-append n (ascii "  "), length_position c.args.position c.requires.1, u.auto, v.auto))
 
 pub returns : goal.returns
 returns c =

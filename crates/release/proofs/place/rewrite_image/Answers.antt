@@ -9,13 +9,13 @@ use Rattle.cells.specs.Check.{max_image}
 use Rattle.cells.specs.declared.refusal.Numbers.{Numbers}
 use Rattle.crystalfold.specs.declared.rules.RuleSet.TheVariants.{Default}
 use Rattle.passes.specs.Promises.{RewriteDone, length_written}
-use Rattle.passes.specs.declared.Rewrite.{Rewrite}
 use Rattle.release.specs.Frames.{Image}
 use Rattle.release.specs.Release.{outcome, handed_back, numbers_as, three_numbers}
 use Rattle.release.specs.Steps.{Small}
 use Rattle.release.proofs.Alone.{back_length, back_shorter, numbers_small, same_answer, enough_lent, frame-placed}
 use borrow.Author.Rules.{rules}
 use Rattle.release.proofs.place.rewrite_image.Goals as goal
+use Rattle.passes.specs.Rewrite.{Rewrite}
 
 -- the rewrite of an image in its place, in the part of the output that it is lent
 module _ (i : Image) (out : List ℕ) {part : List ℕ} {r : Rewrite} (room : 4 + min (length i) max_image ≤ length out)

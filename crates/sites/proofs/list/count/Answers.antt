@@ -1,28 +1,23 @@
 -- `sites::list::count` meets its contract.
-use mathlib.Core.Path.{refl, ap, ap₂, sym, ◌∙◌}
-use Prim.Native.Nat.{ℕ, ◌+◌, ◌<◌}
-use native.Mathlib.Nat.{le_antisymm}
+use mathlib.Core.Bool.{Bool, true, false}
+use mir.Val.{bool_byte}
+use mathlib.Core.Path.{◌≡◌, refl, ap₂, sym, ◌∙◌}
+use Prim.Native.Nat.{ℕ, ◌+◌}
 use native.Mathlib.Omega.{arith}
 use lib.Dec.{eqb}
-use lib.ListN.{length, take}
-use Rattle.cells.proofs.Lists.{tally-next}
-use Rattle.sites.specs.Numbered.{count_in}
+use lib.ListN.{get_or}
+use Rattle.cells.specs.Lists.{one}
+use Rattle.cells.proofs.Lists.{tally-next, one-most}
 use Rattle.sites.proofs.list.count.Goals as goal
 
-pub loop-i-init : goal.loop-i-init
-loop-i-init c = (omega arith, omega arith, refl)
+-- a test as a number
+as_number : (b : Bool) → bool_byte b ≡ one b
+as_number true = refl
+as_number false = refl
 
-pub loop-i-preserved : goal.loop-i-preserved
-loop-i-preserved c =
-    let l = c in
-    let a = l.args in
-    let s = a.list.now in
-    let i = l.loop-i.i in
-    let h : i < length s = omega arith in
-    (omega arith, omega arith, ap₂ ◌+◌ l.loop-i.invariant.2 c.one_if-found.ensures.0 ∙ sym (tally-next (λ (y : ℕ). eqb y a.x) 0 s i h))
-
-pub returns : goal.returns
-returns c =
-    let l = c in
-    let a = l.args in
-    l.loop-i.invariant.2 ∙ ap (λ (n : ℕ). count_in (take n a.list.now) a.x) (le_antisymm l.loop-i.invariant.0 c.loop-i-test.false)
+pub loop-y-preserved : goal.loop-y-preserved
+loop-y-preserved c =
+    let s = c.args.list.now in
+    let i = c.loop-y.y-index in
+    let k : c.from-found.result ≡ one (eqb (get_or s i 0) c.args.x) = c.from-found.ensures ∙ as_number _ in
+    (omega (arith, k, one-most (eqb (get_or s i 0) c.args.x)), ap₂ ◌+◌ c.loop-y.invariant.1 k ∙ sym (tally-next (λ (y : ℕ). eqb y c.args.x) 0 s i (omega arith)))

@@ -1,47 +1,61 @@
 -- `sites::rules::check_rule` meets its contract.
-use mathlib.Core.Path.{refl, sym, ◌∙◌}
-use mathlib.Core.List.{List}
-use Prim.Native.Nat.{◌≤◌, ◌<◌}
+use mathlib.Core.Path.{◌≡◌, refl, ap, sym, ◌∙◌}
+use mathlib.Core.List.{List, []}
 use native.Mathlib.Omega.{arith}
-use lib.ListN.{length, take}
+use lib.ListN.{length, get_or}
 use Rattle.cells.specs.Cells.{Cell, cells}
-use Rattle.cells.specs.declared.refusal.Checked.{Checked}
-use Rattle.cells.proofs.Cells.{length-cells}
 use Rattle.cells.proofs.Answers.{scan_passes, scan-refuses, scan-ends}
+use Rattle.cells.proofs.Cells.{Walked, walk_turn, walk_end}
 use Rattle.sites.specs.Numbered.{count_in}
 use Rattle.sites.specs.Validators.{judge_by}
 use Rattle.sites.proofs.rules.check_rule.Goals as goal
-use Rattle.sites.proofs.rules.check_rule.Goals.{At-loop-i, In-loop-i}
+use Rattle.sites.proofs.rules.check_rule.Goals.{At-loop-cell, After-judge}
+use Rattle.cells.specs.Checked.{Checked}
+use Rattle.std.proofs.lemmas.List.{length_push}
+use Rattle.std.proofs.lemmas.Result.{err_from_is_err_and}
 
 -- the cells, and what each is judged by
-module _ (l : At-loop-i) where
+module _ (l : At-loop-cell) where
   abbrev cs : List Cell
   cs = cells l.args.part.now
 
   abbrev judged : List Cell → Cell → Checked
-  judged _ c = judge_by l.args.rule l.args.position (count_in (take l.args.k l.args.sites.now)) c
+  judged _ c = judge_by l.args.rule l.args.position (count_in l.args.sites.now) c
 
-inside : (t : In-loop-i) → t.loop-i.i < length (cells t.args.part.now)
-inside t = omega (arith, length-cells t.args.part.now, t.loop-i-test.true)
+-- the cell that a turn is at, and what it is judged to be
+turn : (t : After-judge) → Walked t.args.part.now (length t.loop-cell.yielded) t.in-Some.cell.now t.next.new.self.rest.now
+turn t =
+    let i = t.loop-cell.invariant in
+    let h = t.in-Some.ensures.steps.1 in
+    walk_turn t.args.part.now (length t.loop-cell.yielded) i.1 h.0 (h.1 ∙ i.0)
 
-pub loop-i-init : goal.loop-i-init
-loop-i-init c = (omega arith, refl)
+judged-is : (t : After-judge) → judge_by t.args.rule t.args.position (count_in t.args.sites.now) (get_or (cells t.args.part.now) (length t.loop-cell.yielded) []) ≡ t.judge.result
+judged-is t = ap (judge_by t.args.rule t.args.position (count_in t.args.sites.now)) (sym (turn t).is) ∙ sym t.judge.ensures
 
-pub returns-in_default : goal.returns-in_default
-returns-in_default c =
-    let t = c in
-    let l = t in
-    let e = c.in_default.is in
-    e ∙ scan-refuses (judged (goal.at.returns-in_default c).At-loop-i) (cs (goal.at.returns-in_default c).At-loop-i) l.loop-i.i (inside (goal.at.returns-in_default c).In-loop-i) l.loop-i.invariant.1 (sym c.judge-r.ensures ∙ e)
+pub loop-cell-init : goal.loop-cell-init
+loop-cell-init c = (cc, cc, refl)
 
-pub loop-i-preserved : goal.loop-i-preserved
-loop-i-preserved c =
-    let t = c in
-    let l = t in
-    (omega arith, scan_passes (judged (goal.at.loop-i-preserved c).At-loop-i) (cs (goal.at.loop-i-preserved c).At-loop-i) l.loop-i.i (inside (goal.at.loop-i-preserved c).In-loop-i) l.loop-i.invariant.1 (sym c.judge-r.ensures ∙ c.in-Good.is))
+pub returns-in_err-judge : goal.returns-in_err-judge
+returns-in_err-judge c =
+    let t = goal.at.returns-in_err-judge c in
+    let l = t.At-loop-cell in
+    let p = err_from_is_err_and c.from_residual.result c.from_residual.ensures.1 in
+    rw (p.1, p.2) (scan-refuses (judged l) (cs l) (length c.loop-cell.yielded) (turn t.After-judge).inside c.loop-cell.invariant.2 (judged-is t.After-judge ∙ c.in_err-judge.was))
+
+pub loop-cell-preserved : goal.loop-cell-preserved
+loop-cell-preserved c =
+    let t = goal.at.loop-cell-preserved c in
+    let l = t.At-loop-cell in
+    let k = turn t.After-judge in
+    let n = length_push c.loop-cell.yielded c.in-Some.cell in (
+      c.in-Some.ensures.steps.0 ∙ c.loop-cell.invariant.0,
+      rw n k.next_is,
+      rw n (scan_passes (judged l) (cs l) (length c.loop-cell.yielded) k.inside c.loop-cell.invariant.2 (judged-is t.After-judge ∙ c.in_ok-judge.was)),
+    )
 
 pub returns : goal.returns
 returns c =
-    let l = c in
-    let h : length (cs (goal.at.returns c).At-loop-i) ≤ l.loop-i.i = omega (arith, length-cells l.args.part.now, c.loop-i-test.false) in
-    scan-ends (judged (goal.at.returns c).At-loop-i) (cs (goal.at.returns c).At-loop-i) l.loop-i.i h l.loop-i.invariant.1
+    let l = (goal.at.returns c).At-loop-cell in
+    let i = c.loop-cell.invariant in
+    let h = c.in-None.ensures.steps.1 in
+    scan-ends (judged l) (cs l) (length c.loop-cell.yielded) (walk_end c.args.part.now _ i.1 (omega (arith, h.0, i.0))) i.2

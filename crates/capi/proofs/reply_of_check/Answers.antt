@@ -1,8 +1,0 @@
--- `capi::reply_of_check` meets its contract.
-use Rattle.capi.proofs.reply_of_check.Goals as goal
-
-pub returns-in-Good : goal.returns-in-Good
-returns-in-Good c = simp c.in-Good.is
-
-pub returns-in-Refused : goal.returns-in-Refused
-returns-in-Refused c = simp (c.reply_of_refusal.ensures, c.in-Refused.is)
