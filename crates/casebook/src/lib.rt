@@ -14,8 +14,8 @@ pub fn count(n: u64, more: bool) -> u64
     n.saturating_add(u64::from(more))
 }
 
-// Reads until the buffer is full, the file ends or a read fails; how many bytes were put at the start of the buffer. Of a file whose bytes are known these
-// are the next ones. (A `while`: how far a turn goes is what the read says.)
+// Reads until the buffer is full, the file ends or a read fails; how many bytes were put at the start of the buffer. Of a file whose bytes
+// are known these are the next ones. (A `while`: how far a turn goes is what the read says.)
 pub fn read_full<R: Read>(file: &mut R, buffer: &mut [u8]) -> usize
     ensures within { result ≤ length buffer.new }
     ensures bytes { Consumes (R.remaining file.old) (R.remaining file.new) (take result buffer.new) }

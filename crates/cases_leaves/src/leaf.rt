@@ -44,7 +44,8 @@ impl fmt::Display for NoValue {
     }
 }
 
-// The first digit of a leaf's number is its kind, the second the leaf.
+// The first digit of a leaf's number is its kind, the second the leaf. (The files' format: each number is turned into its call at one place, so an
+// enum of the leaves would only be matched a second time.)
 #[tactic(auto, unfolding(crate::specs::Leaves::answer_of, crate::specs::Leaves::pick))]
 pub fn compute(leaf: u64, a: u64, b: u64) -> Answer
     ensures { result ≡ answer_of leaf a b }
@@ -63,6 +64,7 @@ pub fn compute(leaf: u64, a: u64, b: u64) -> Answer
 }
 
 // 0 reads a value and writes it back; 4 is the Rust's division, 5 IEEE 754's.
+// (The second digit is the file's format too, here and in the functions below.)
 #[tactic(auto, unfolding(crate::specs::Leaves::pick))]
 fn f64_leaf(leaf: u64, a: f64, b: f64) -> Answer
     ensures { result ≡ f64_leaf leaf a b }
@@ -180,7 +182,7 @@ fn factor_leaf(leaf: u64, wanted: i32, given: i32) -> Answer
     }
 }
 
-// ---- operands
+// ---- operands, cut to their type: `u8::try_from` and `u32::try_from` would refuse a greater number
 
 fn u8_of(n: u64) -> u8
     ensures { result ≡ n % 256 }
@@ -210,6 +212,7 @@ fn quad_of(n: u64) -> Quad
 }
 
 // The constant of a kind, numbered as ConstVal's cases are.
+// (The kind is a leaf's second digit, the file's format.)
 #[tactic(auto, unfolding(crate::specs::Leaves::constant_of))]
 fn constant(kind: u64, bits: u64) -> ConstVal
     ensures { result ≡ constant_of kind bits }

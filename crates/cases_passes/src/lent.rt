@@ -9,6 +9,7 @@ use cells::buffer;
 use input::zeros;
 
 // The most bytes that are lent: the longest pages, and a line more.
+// (Three contracts say `room ≤ 242440`: a struct around the one number would only be opened in each.)
 pub const MAX_ROOM: usize = 242440;
 
 // Marked bytes behind the lent ones.

@@ -27,6 +27,7 @@ pub enum Operation {
 }
 
 // An answer's numbers. A refusal's are 0 0 0 on success, and the others are 0 on a refusal and of the checks.
+// (`changed` is a number too: the file has a byte for it, which may be any, and is held against it.)
 #[derive(Clone, Copy, PartialEq, Eq)]
 pub struct Reply {
     pub number: usize,
@@ -37,7 +38,7 @@ pub struct Reply {
     pub changed: usize,
 }
 
-// `answers` goes with a release.
+// `answers` goes with a release: since it is no part of the byte, this is no `TryFrom<u8>`. The bytes are the files' format, and are read here alone.
 pub fn asked_by(byte: u8, answers: u16) -> Option<Operation>
     ensures { result ≡ asked_by byte answers }
 {

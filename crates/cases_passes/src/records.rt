@@ -45,6 +45,7 @@ pub fn run<F: Read + Drop>(rt: &impl Print, mut file: F) -> io::Result<()> {
     Ok(())
 }
 
+// A record of the file. (Its kinds are numbers of the file's format, read here alone: an enum of them would only be matched a second time.)
 fn record<F: Read>(
     rt: &impl Print,
     file: &mut F,

@@ -20,6 +20,7 @@ pub enum Kind {
 
 // What a command is: a load of one of the six kinds, a computed command of one or two operands, control flow, or an outside
 // action with no dst, with one, or with one that may be absent.
+// (NoCommand, and no Option around the others: `rows` of specs/Table has it as a row's class, of 00, an event and a head.)
 #[derive(Clone, Copy)]
 pub enum Class {
     NoCommand,

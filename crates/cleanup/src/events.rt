@@ -18,6 +18,7 @@ use cells::walk::Part;
 use sites::{FEW, Which};
 
 // Writes the events that stay; how many.
+// (The bound on the instructions is no field of `Function`: that has the parts of any image, also of one that no check passes.)
 pub fn retain_events(code: &[u8], events: &[u8], out: &mut [u8]) -> usize
     requires { (length code.now / 16 ≤ max_instructions) × (length events.now / 16 ≤ length out.old / 16) }
     ensures { Kept (clean_events (cells code.now) (cells events.now)) out.old out.new result }
@@ -45,6 +46,7 @@ fn retain_within<const N: usize>(code: &[u8], events: &[u8], out: &mut [u8]) -> 
 }
 
 // The sites on the cells removed, at the start of the list; how many.
+// (A number and no slice: `Put` of cells/specs/Cells says it of the lent list, whose rest stays.)
 pub fn removed_sites(code: &[u8], which: Which, list: &mut [u32]) -> usize
     requires { length code.now / 16 ≤ length list.old }
     ensures { Put (sites_on (site_of which) (removed view (cells code.now))) list.old list.new result }

@@ -53,6 +53,7 @@ fn cleanup_within<const N: usize>(code: &[u8], events: &[u8], out: &mut [u8]) ->
 }
 
 // Writes the function's head, with its new counts, before the cells that stay.
+// (Three slices and no `Function`: the clauses name each part, which would be `f.entry.code.now` and the like there.)
 pub fn cleanup_to(head: &[u8], code: &[u8], events: &[u8], out: &mut [u8]) -> FunctionReport
     requires { (length head.now ≡ 16) × (16 ≤ length out.old) × Parts code.now events.now (drop 16 out.old) }
     ensures { Holds (clean_function (function_of head.now code.now events.now)) (clean_count (cells code.now)) out.old out.new result }

@@ -138,6 +138,7 @@ pub fn copy_out(code: &[u8], list: &[u16], out: &mut [u8])
 }
 
 // Sweeps a list of positions by a rule; how many are left, at the start of the list. Each cell is read once.
+// (A number and no slice: `Put` of cells/specs/Cells says it of the lent list, whose rest stays.)
 pub fn sweep<S: Rule>(code: &[u8], list: &mut [u16], rule: S) -> usize
     requires { AllBelow (length code.now / 16) list.old }
     ensures { Put (stays_by (seen_at code.now) S.goes_of S.after_of rule list.old) list.old list.new result }

@@ -11,6 +11,7 @@ use leaves::verdict::Decline;
 use leaves::{constant, fixed, float, quad, signed, unsigned, verdict};
 
 // The commands by their operands' kinds: an arm each, so that its call knows the command.
+// (A function for each kind: it opens that variant by `let .. else`, which document 01 asks of an arm; one for all kinds would need a trait for it.)
 pub fn fold_value(
     rules: RuleSet,
     op: u8,

@@ -42,6 +42,7 @@ pub fn fold_constants_and_identities(instrs: &mut [u8], rules: RuleSet) -> usize
 
 // A computed command at the position `at`, by its verdict: the load of its value takes its place, or it stays. The answer is what is known of
 // dst after it.
+// (`dst < 65536` stands in four contracts: a type for it would be made in `decode`, and opened wherever the number is used.)
 fn fold_command(
     instrs: &mut [u8],
     at: usize,

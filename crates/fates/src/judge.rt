@@ -15,6 +15,8 @@ use leaves::verdict::Decline;
 
 // Gives the cells at the positions of a list the fates of their verdicts. A barrier writes only the entries that were written since the last one,
 // so that the whole takes time by the number of cells.
+// (The walk of `crystalfold::fold_constants_and_identities` again: that one writes into the cells that it reads, this one into another list.
+// One walk for both would be handed what to do with each verdict, and the buffers with it.)
 pub fn judge(code: &[u8], list: &[u16], fates: &mut [Fate])
     requires { Judgeable code.now list.now fates.old }
     ensures { fates.new ≡ placed list.now (fold_fates (see_at code.now) unknown list.now) fates.old }
@@ -48,6 +50,7 @@ fn of_verdict(v: Result<ConstVal, Decline>) -> Fate
 }
 
 // Folded to a value: the load's command, and the bits. Read back, they give the value.
+// (The bytes of the commands are those of `load_of` of specs/Fates.)
 fn of_value(v: ConstVal) -> Fate
     ensures { ValueTold v result }
 {

@@ -50,6 +50,7 @@ impl From<Decline> for Reason {
 }
 
 // Unreachable: behind the Ret or Jmp at that position of the image. Folded: the command that loads the value, and the value's bits.
+// (The command by its byte, as `load_of` of specs/Fates has it.)
 #[derive(Clone, Copy)]
 pub enum Fate {
     RepeatedLabel,

@@ -10,8 +10,9 @@ ghost use Rattle.input.specs.Reading.{StepWithin, Within};
 use std::io;
 use std::io::{Error, ErrorKind, Read};
 
-// Reads standard input to its end, behind the bytes that are kept; how many bytes stand at the start of the buffer then. Of more bytes than the limit only those up to it count, and that there are more. A
-// proved loop has to end, and nothing says that the input does: so the loop has a number of turns that no run uses up.
+// Reads standard input to its end, behind the bytes that are kept; how many bytes stand at the start of the buffer then. Of more bytes than
+// the limit only those up to it count, and that there are more. A proved loop has to end, and nothing says that the input does: so the loop
+// has a number of turns that no run uses up.
 pub fn read_to_end(
     rt: &impl io::Input,
     buffer: &mut [u8],
@@ -33,8 +34,8 @@ pub fn read_to_end(
     Err(Error::from(ErrorKind::TimedOut))
 }
 
-// One read, behind the bytes that are kept: up to which position there are bytes now, or none at the input's end. Bytes past the limit are read over each other: that they are there is all that a job has to know. Once
-// the input is past that length, it stays so.
+// One read, behind the bytes that are kept: up to which position there are bytes now, or none at the input's end. Bytes past the limit are
+// read over each other: that they are there is all that a job has to know. Once the input is past that length, it stays so.
 fn read_some<R: Read>(
     input: &mut R,
     buffer: &mut [u8],

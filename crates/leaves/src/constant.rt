@@ -6,6 +6,7 @@ use crate::quad::Quad;
 
 // Unknown stands first: it is what a table of these holds at the start. It is a variant and no Option around the others, whose own tag would make
 // each entry of the table larger.
+// Definitions name it too: `value_in` of specs/Verdicts is Unknown where there is no value.
 #[derive(Clone, Copy)]
 pub enum ConstVal {
     Unknown,

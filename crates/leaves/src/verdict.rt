@@ -29,6 +29,7 @@ impl From<TryFromIntError> for Decline {
 }
 
 // Why operands that are not both of the command's kind have no value: the first reason.
+// (Both functions answer a `Result`, though never a value: their definitions in specs/Verdicts are of `Verdict`, and the fold's arms hand it on.)
 pub fn declined(left: ConstVal, right: ConstVal) -> Result<ConstVal, Decline>
     ensures { result ≡ declined left right }
 {

@@ -11,7 +11,8 @@ ghost use Rattle.listing.specs.Promises.{Listing, TextWritten};
 use cells::read::CELL;
 use cells::refusal::{Numbers, Refusal};
 
-// Each `list_` function writes a text at the start of the buffer and answers how many bytes it has; or the buffer is too short for it, and is as it was.
+// Each `list_` function writes a text at the start of the buffer and answers how many bytes it has; or the buffer is too short for it, and is
+// as it was.
 
 // Bytes of a cell's line: two digits a byte, and a line feed.
 const LINE: usize = 33;
@@ -53,11 +54,7 @@ pub fn list_checked(r: Result<(), Refusal>, text: &mut [u8]) -> Option<usize>
     ensures { Listing (checked_text r) text.old text.new result }
 {
     match r {
-        Ok(()) => list_line(
-            b"good
-",
-            text,
-        ),
+        Ok(()) => list_line(b"good\n", text),
         Err(x) => list_refused(Numbers::from(x), text),
     }
 }
@@ -72,10 +69,13 @@ fn list_line(line: &[u8], text: &mut [u8]) -> Option<usize>
     Some(append(line, text, 0))
 }
 
+// No text is made by `write!`: into a lent slice it promises nothing of the bytes, and from another place they would be copied once more.
+
 // Each function below that takes `at` writes its piece there, and answers the position behind it; the others write at the start. (A cursor that
 // holds the buffer and the position is no plainer: each contract would name the two in it, and the one who lends the buffer takes it back.)
 
 // The line of a refusal.
+// (Callers ask for the 71 bytes too: a struct that holds so long a buffer would be made wherever one is lent, and give it back.)
 pub fn put_refused(r: Numbers, line: &mut [u8]) -> usize
     requires { 71 ≤ length line.old }
     ensures { TextWritten (refused_text r.number r.position r.detail) line.old line.new result }

@@ -43,7 +43,8 @@ enum Job {
 }
 
 // What a job says: so many bytes at the start of the buffer for standard output, and of the one for standard error. (The clause `says` of
-// `run` speaks of both buffers whole, so these are lengths and no slices.)
+// `run` speaks of both buffers whole, so these are lengths and no slices. `matchdesk_release` has such a struct too: in `input`, which both use,
+// it would stand apart from `Says`, its meaning, which needs `listing`.)
 #[derive(Clone, Copy)]
 struct Said {
     output: usize,
@@ -148,6 +149,7 @@ fn find(rt: &impl Env, out: &impl Print, err: &impl Print, product: Product) {
     say(out, err, &output[..said.output], &error[..said.error]);
 }
 
+// The words are told apart by `same`, as those of `factor`: one test a word, in the order of `asked_for`; a table of words would need a loop over it.
 fn job_of(word: &[u8]) -> Option<Job>
     ensures { result ≡ asked_for word.now }
 {
@@ -188,6 +190,7 @@ fn run(job: Job, input: &[u8], work: &mut [u8], output: &mut [u8], error: &mut [
     ensures says { Says (program_texts job input.now) output.old output.new error.old error.new result }
     ensures work_after { work.new ≡ work_after job input.now work.old }
 {
+    // Each job lends other buffers to another operation: closures in the jobs would be no plainer.
     match job {
         Job::Rewrite(rules) => {
             let reply = passes::run_opt_passes(rules, input, work);

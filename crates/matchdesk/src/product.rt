@@ -43,6 +43,7 @@ pub fn find_factor(
     ensures prefix_len { IsPrefixLen result.output output.new × IsPrefixLen result.error error.new }
     ensures says { Says (factor_texts product wanted.now factor.now) output.old output.new error.old error.new result }
 {
+    // The two texts differ in a word: one function for both would append in two pieces, and is no plainer than two literals.
     let Some(w) = read_i32(wanted) else {
         return Said::on_error(append(
             b"WANTED is no i32: a whole number from -2147483648 to 2147483647\n",

@@ -19,6 +19,7 @@ use std::io;
 use std::rt::Env;
 
 // What is said: so many bytes at the start of the buffer for standard output, and of the one for standard error.
+// (`matchdesk` has one too: in `input`, which both use, it would stand apart from `Says`, its meaning, which needs `listing`.)
 #[derive(Clone, Copy)]
 struct Said {
     output: usize,
@@ -76,6 +77,7 @@ fn is_refused(input: &[u8]) -> bool
 
 // Says each image's texts, in order, as long as standard output takes them. No contract can say what is written; of each image it is what
 // `say_image` promises. (A `while`: each image says where the next one starts.)
+// (No iterator over the images, as in `release`: `images_of` gives a list or none.)
 fn write_images(out: &impl Print, err: &impl Print, release: &[u8]) -> io::Result<()>
     requires { Framed release.now }
 {

@@ -53,6 +53,7 @@ fn size_in(digits: &[u8]) -> Option<u64>
 }
 
 // An i32 and a line feed, over the start of a buffer that has room for a sign and the longest decimal.
+// (No `write!`: into a lent slice it promises nothing of the bytes.)
 pub fn put_i32(z: i32, text: &mut [u8]) -> usize
     requires { 22 ≤ length text.old }
     ensures { TextWritten (signed z ++ line_feed ∷ []) text.old text.new result }

@@ -51,6 +51,7 @@ pub fn length_kept(image: &[u8]) -> usize
 }
 
 // The cells to count, of which this is the first, where so many are promised.
+// (Not `Due::next_cell`, which goes on by one event: here all that are promised are counted in one turn.)
 fn count_next(due: Due, cell: &[u8]) -> Counted
     requires { (length cell.now ≡ 16) × (due.events ≤ 65535) }
     ensures { result ≡ counted_at due.code due.events cell.now }

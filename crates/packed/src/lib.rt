@@ -46,8 +46,8 @@ impl From<PackingError> for Numbers {
     }
 }
 
-// Packs an image that the image check passes; how many bytes are written. Of no cells this is no bytes, and is answered at once. (Only where an output may be too short is the
-// packed form measured.)
+// Packs an image that the image check passes; how many bytes are written. Of no cells this is no bytes, and is answered at once. (Only where
+// an output may be too short is the packed form measured.)
 pub fn pack(image: &[u8], out: &mut [u8]) -> Result<usize, PackingError>
     ensures { PackDone image.now out.old out.new result }
 {

@@ -13,6 +13,7 @@ use cells::refusal::Refusal;
 use cells::{buffer, check, read, table};
 
 // Cells of the longest image.
+// (`sealing` has this line too: a `use` of a shared one would be as long.)
 const MAX_CELLS: usize = MAX_IMAGE / CELL;
 
 // How many bytes an image has of which this is the packed form; or why it is of none. Of each function the head, the instructions and the events.
@@ -135,6 +136,7 @@ fn check_head(s: &[u8], position: usize, cell: usize) -> Result<usize, PackingEr
 
 // The cells of a packed form that is known good, into an output that has just the room for them: of each function the head, the instructions
 // and the events.
+// (A `while`: each function says where the next one starts.)
 pub fn restore_cells(packed: &[u8], out: &mut [u8])
     requires { Room (unpacked packed.now) (length out.old) }
     ensures { unpacked packed.now ≡ bytes out.new }

@@ -1,4 +1,5 @@
 // The lines. Each function here writes its piece at a position, and answers the position behind it.
+// (No `write!`: into a lent slice it promises nothing of the bytes.)
 ghost use Rattle.std.specs.Prelude.{◌≡◌, ◌++◌, ◌+◌, ◌≤◌, ◌<◌, length, take};
 ghost use Rattle.cells.specs.Cells.{flat};
 ghost use Rattle.listing.specs.Promises.{TextWritten};
@@ -40,7 +41,8 @@ fn put_page(name: usize, position: usize, text: &mut [u8], at: usize) -> usize
     put_heading(name, position / PAGE + 1, text, at)
 }
 
-// The heading of a page of a function. (Its digits stand at eight fixed places: loops that fill five and three of them from the right are no plainer.)
+// The heading of a page of a function. (Its digits stand at eight fixed places: loops that fill five and three of them from the right are no
+// plainer.)
 pub fn put_heading(name: usize, page: usize, text: &mut [u8], at: usize) -> usize
     requires { at + 58 ≤ length text.old }
     ensures { TextWritten (take at text.old ++ heading name page) text.old text.new result }
@@ -58,6 +60,7 @@ pub fn put_heading(name: usize, page: usize, text: &mut [u8], at: usize) -> usiz
 }
 
 // The line of a cell of a part, at its position in the function.
+// (What is known of the cell and its position stands in three contracts: a struct for it would be made here, and opened in the other two.)
 fn put_cell(
     names: &Names,
     p: Part,

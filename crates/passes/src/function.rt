@@ -9,6 +9,7 @@ use cells::read::CELL;
 use cleanup::FunctionReport;
 
 // By its head, its instruction cells and its event cells. One without cells stays as it is.
+// (Three slices and no `Function`: the clauses name each part, which would be `f.entry.code.now` and the like there.)
 pub fn clean(head: &[u8], code: &[u8], events: &[u8], out: &mut [u8]) -> FunctionReport
     requires { Room head.now code.now events.now out.old }
     ensures { Holds (clean_function (function_of head.now code.now events.now)) (clean_count (cells code.now)) out.old out.new result }

@@ -126,6 +126,7 @@ pub struct Total {
 
 // Every function, rewritten, one after another: cleanup over every function, then CrystalFold over every function, as the Rust does.
 // A pass is a value and no closure: callers and contracts name it.
+// (That the site check passes is a clause and no type of its own: the image of the second round in `rest` is proved good, and not checked.)
 pub fn rewrite_functions(pass: Pass, image: &[u8], out: &mut [u8]) -> Total
     requires { (site_answer image.now ≡ Ok tt) × (length image.now ≤ length out.old) }
     ensures { AllWritten (pass_all pass (functions (cells image.now))) (count_all pass (functions (cells image.now))) out.old out.new result }

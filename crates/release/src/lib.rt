@@ -16,8 +16,8 @@ use place::{ANSWER, NUMBER};
 // The number of the refusal, which None stands for, as the C interface and the programs give it.
 pub const REFUSAL: usize = 33;
 
-// Rewrites all images of a release; how many bytes are written to the output. The answers get three numbers an image. None is the refusal: a length or an image
-// past the release's end, an output shorter than the release, or fewer than 12 bytes an image for the answers.
+// Rewrites all images of a release; how many bytes are written to the output. The answers get three numbers an image. None is the refusal: a
+// length or an image past the release's end, an output shorter than the release, or fewer than 12 bytes an image for the answers.
 pub fn rewrite_release(release: &[u8], out: &mut [u8], answers: &mut [u8]) -> Option<usize>
     ensures { ReleaseDone release.now out.old out.new answers.old answers.new result }
 {
@@ -48,6 +48,7 @@ pub fn count_images(release: &[u8]) -> Option<usize>
 
 // The images one after another; how many bytes of the output are written.
 // (No index counts the images: each place moves on by what the image takes there.)
+// (No iterator over the images: its `next_gives` would need them as a list, and `images_of` of specs/Frames gives a list or none.)
 fn rewrite_images(release: &[u8], out: &mut [u8], answers: &mut [u8]) -> usize
     requires { Ready release.now out.old answers.old }
     ensures result_value { Some result ≡ release_answer release.now (length out.old) (length answers.old) }

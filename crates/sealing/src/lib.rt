@@ -50,6 +50,7 @@ impl From<SealingError> for Numbers {
 }
 
 // Cells of the longest image.
+// (`packed` has this line too: a `use` of a shared one would be as long.)
 const MAX_CELLS: usize = MAX_IMAGE / CELL;
 
 pub fn sealing_check(image: &[u8]) -> Result<(), SealingError>
@@ -101,17 +102,19 @@ fn check_functions(image: &[u8], w: Which, numbers: &mut [u32]) -> Result<(), Se
 }
 
 // The function at a position, by the earlier functions' numbers and its own: the first of these that is one of those.
+// (Counting has no branch in its loop; `contains` has one at each number, and most numbers stand in no earlier function.)
 fn check_function(
     earlier: &[u32],
     own: &[u32],
     w: Which,
     position: usize,
 ) -> Result<(), SealingError>
+    requires { length earlier.now ≤ max_image }
     ensures { result ≡ repeat_among w position earlier.now own.now }
 {
-    for x in own {
-        if earlier.contains(x) {
-            return Err(SealingError::Repeated(w, position, *x as usize));
+    for &x in own {
+        if list::count(earlier, x) != 0 {
+            return Err(SealingError::Repeated(w, position, x as usize));
         }
     }
     Ok(())
