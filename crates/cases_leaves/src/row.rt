@@ -1,6 +1,6 @@
 // A row of vectors: the operands and the result in 16 hexadecimal digits each; in the result's place may stand a reason, `divisor zero` or
 // `out of range`, or `none` where there is no quad.
-ghost use Rattle.std.specs.Prelude.{◌≡◌, ◌↔◌, true, ◌+◌, ◌≤◌};
+ghost use Rattle.std.specs.Prelude.{◌≡◌, ◌↔◌, true, false, ◌+◌, ◌≤◌};
 ghost use Rattle.cases_leaves.specs.Rows.{digit_of, number_in, is_separated, is_text, result_in, row_in, Holds};
 
 use crate::leaf::{Answer, NoValue, compute};
@@ -23,8 +23,7 @@ pub fn holds(rt: &impl Print, group: &[u8], leaf: u64, line: &[u8]) -> bool
     ensures { (result ≡ true) ↔ Holds leaf line.now }
 {
     let Some(vector) = read(line) else {
-        let _ = malformed(rt, group, line);
-        return false;
+        return malformed(rt, group, line);
     };
     let got = compute(leaf, vector.a, vector.b);
     let held = got == vector.expected;
@@ -102,7 +101,14 @@ fn digit(c: u8) -> Option<u64>
     }
 }
 
-fn malformed(rt: &impl Print, group: &[u8], line: &[u8]) -> io::Result<()> {
+fn malformed(rt: &impl Print, group: &[u8], line: &[u8]) -> bool
+    ensures { result ≡ false }
+{
+    let _ = not_read(rt, group, line);
+    false
+}
+
+fn not_read(rt: &impl Print, group: &[u8], line: &[u8]) -> io::Result<()> {
     rt.write_all(b"wrong: a row is malformed in ")?;
     rt.write_all(group)?;
     rt.write_all(line)

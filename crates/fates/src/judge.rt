@@ -40,7 +40,7 @@ pub fn judge(code: &[u8], list: &[u16], fates: &mut [Fate])
 }
 
 // Of a command that cleanup leaves, by its verdict.
-fn of_verdict(v: Result<ConstVal, Decline>) -> Fate
+pub fn of_verdict(v: Result<ConstVal, Decline>) -> Fate
     ensures { VerdictTold v result }
 {
     match v {

@@ -46,13 +46,17 @@ impl From<PackingError> for Numbers {
     }
 }
 
-// Packs an image that the image check passes; how many bytes are written. Of no cells this is no bytes, and is answered at once. (Only where
-// an output may be too short is the packed form measured.)
+// Packs an image that the image check passes; how many bytes are written. What is shorter than a cell is answered at once: of no cells the packed
+// form is no bytes, and a part of a cell is no image. (So the loops behind it know of a cell, and make no test for one, which small images feel.
+// Only where an output may be too short is the packed form measured.)
 pub fn pack(image: &[u8], out: &mut [u8]) -> Result<usize, PackingError>
     ensures { PackDone image.now out.old out.new result }
 {
-    if image.is_empty() {
-        return Ok(0);
+    if image.len() < CELL {
+        if image.is_empty() {
+            return Ok(0);
+        }
+        return Err(PackingError::Refused(Refusal::Length));
     }
     image::check::check_image(image)?;
     if out.len() < keep::most_kept(image.len() / CELL) && out.len() < keep::length_kept(image) {

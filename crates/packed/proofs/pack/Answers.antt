@@ -8,6 +8,8 @@ use lib.ListN.{length}
 use Rattle.cells.specs.Check.{max_image}
 use Rattle.image.specs.Image.{image_answer}
 use Rattle.image.proofs.Good.{image_good}
+use Rattle.image.proofs.Steps.{image_uneven}
+use Rattle.cells.specs.declared.refusal.Refusal.TheVariants.{Length}
 use Rattle.packed.specs.Form.{packed}
 use Rattle.packed.proofs.Lengths.{packed-most}
 use Rattle.packed.proofs.Undo.{pack_nothing, pack_refused, pack_too_long, pack_written}
@@ -20,6 +22,14 @@ pub returns-then-is_empty : goal.returns-then-is_empty
 returns-then-is_empty c =
     let a = c.args in
     pack_nothing a.image.now a.out.now (search rules)
+
+-- a part of a cell
+pub returns-then-image-lt-CELL : goal.returns-then-image-lt-CELL
+returns-then-image-lt-CELL c =
+    let a = c.args in
+    let s = a.image.now in
+    let some : length s ≡ 0 → ⊥ = search rules in
+    pack_refused s a.out.now Length (sym (image_uneven s (omega arith) (λ e. omega (arith, some, e))))
 
 pub returns-in_err-check_image : goal.returns-in_err-check_image
 returns-in_err-check_image c =
